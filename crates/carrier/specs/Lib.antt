@@ -1,0 +1,4 @@
+pub mod Deck
+pub mod Scripts
+pub mod Diallers
+pub mod Laws

@@ -1,0 +1,3 @@
+pub mod Code
+pub mod Lossy
+pub mod Utf8Code

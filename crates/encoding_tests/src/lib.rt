@@ -1,0 +1,3 @@
+// What the encodings make of samples.
+#[cfg(test)]
+mod utf8;

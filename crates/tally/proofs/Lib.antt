@@ -1,0 +1,11 @@
+pub mod Cuts
+pub mod Tallies
+pub mod Logic
+pub mod Refusals
+pub mod Pieces
+pub mod Ended
+pub mod Greeting
+pub mod Moves
+pub mod Runs
+pub mod Driven
+pub mod Making

@@ -1,0 +1,4 @@
+pub mod Observed
+pub mod Tally
+pub mod Law
+pub mod Runs
