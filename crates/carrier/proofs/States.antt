@@ -1,5 +1,5 @@
 -- The law of the states, by cases. Assumes nothing.
-use mathlib.Core.Path.{_≡_, refl, sym, ap, _∙_}
+use mathlib.Core.Path.{_≡_, refl, ap}
 use mathlib.Core.List.{List, [], _∷_, _++_}
 use mathlib.Core.Logic.{_⊎_, inl, inr}
 use native.Mathlib.Omega.{arith}
@@ -12,7 +12,7 @@ use Rattle.carrier.specs.declared.address.SocketAddr.{SocketAddr}
 use Rattle.carrier.specs.declared.carrier.CarrierState.{CarrierState}
 use Rattle.carrier.specs.declared.carrier.CarrierState.the-variants.{Closed, Listening, Holding, Standing}
 use Rattle.carrier.specs.declared.carrier.CarrierRefusal.{CarrierRefusal}
-use Rattle.carrier.specs.Deck.{Ask, to-listen, to-dial, for-caller, Told, address, done, none-yet, refuses, Deck, refused, or-closed, called, after-caller, kept, listened, listen-of, dial-of, caller-of, keep-of, close-of, in-state, tells}
+use Rattle.carrier.specs.Deck.{Ask, for-caller, Told, Deck, refused, or-closed, called, after-caller, kept, listen-of, caller-of, in-state, tells}
 use Rattle.carrier.specs.Laws.{Move, listen, dial, caller, keep, close, moved, run, asks, Stands, by-dial, by-keep, as-before, States}
 
 wrong : (s : CarrierState) (t : Told) → (s ≡ Closed) ⊎ (s ≡ Standing) → called s t ≡ Err refused

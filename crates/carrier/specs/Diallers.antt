@@ -1,7 +1,6 @@
 -- What a carrier that only dials means. Assumes nothing.
 use mathlib.Core.Bool.{Bool, cond}
 use mathlib.Core.List.{List}
-use Rattle.carrier.specs.declared.carrier.CarrierState.{CarrierState}
 use Rattle.carrier.specs.declared.carrier.CarrierState.the-variants.{Closed, Standing}
 use Rattle.carrier.specs.Deck.{Ask, to-listen, to-dial, for-caller, Told, done, refuses, Deck}
 

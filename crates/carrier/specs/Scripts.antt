@@ -2,7 +2,6 @@
 use mathlib.Core.List.{List, [], _∷_}
 use lib.ListN.{drop}
 use denote.Ref.{now}
-use Rattle.carrier.specs.declared.address.SocketAddr.{SocketAddr}
 use Rattle.carrier.specs.declared.carrier.CarrierState.{CarrierState}
 use Rattle.carrier.specs.declared.script.Entry.{Entry}
 use Rattle.carrier.specs.declared.script.Entry.the-variants.{Listens, Dials, Calls, NoneYet, Refuses}

@@ -1,8 +1,8 @@
 // The representation types of the TYPE command.
 ghost use mathlib.Core.Path.{_≡_};
 ghost use mathlib.Core.List.{_∷_};
-ghost use Prim.Native.Nat.{_≤_};
-ghost use lib.ListN.{take};
+ghost use Prim.Native.Nat.{_-_, _≤_};
+ghost use lib.ListN.{take, drop, replicate};
 ghost use Rattle.std.specs.Written.{decimal};
 ghost use Rattle.command.specs.Types.{format-letter, type-text};
 
@@ -40,10 +40,11 @@ impl FormatControl {
 }
 
 impl FileType {
-    // TYPE's argument: bytes, and how many of them it has.
+    // TYPE's argument: bytes, and how many of them it has; those behind it are 0.
     pub fn text(self) -> ([u8; 8], usize)
         ensures text { λ r. ⌜ take (r .1) (r .0) ≡ type-text self ⌝ }
         ensures short { λ r. ⌜ r .1 ≤ 5 ⌝ }
+        ensures rest { λ r. ⌜ drop (r .1) (r .0) ≡ replicate (8 - r .1) 0 ⌝ }
     {
         match self {
             FileType::Ascii(control) => ([b'A', b' ', control.letter(), 0, 0, 0, 0, 0], 3),
@@ -58,6 +59,7 @@ impl FileType {
 fn local_text(bits: u8) -> ([u8; 8], usize)
     ensures text { λ r. ⌜ take (r .1) (r .0) ≡ 76 ∷ 32 ∷ decimal bits ⌝ }
     ensures short { λ r. ⌜ r .1 ≤ 5 ⌝ }
+    ensures rest { λ r. ⌜ drop (r .1) (r .0) ≡ replicate (8 - r .1) 0 ⌝ }
 {
     let ones = b'0' + bits % 10;
     if bits < 10 {

@@ -31,8 +31,6 @@ pub impl Encoding for Utf8Encoding as Utf8EncodingEncoding {
 }
 
 // A theorem: what any bytes are decoded to is UTF-8, and what is UTF-8 is decoded to itself.
-pub fn lossy_is_text() -> u8
+pub fn lossy_is_text()
     ensures { λ _. ⌜ Lossy-is-text ⌝ }
-{
-    0
-}
+{}

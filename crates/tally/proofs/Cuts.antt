@@ -8,7 +8,7 @@ use lib.ListN.{length, take, drop, length-append}
 use Rattle.std.proofs.shelf.Lists.{take-at, drop-at}
 use Rattle.link.specs.Wire.{Wire}
 use Rattle.command.specs.Laws.{Plain, Whole}
-use Rattle.tally.specs.Observed.{lines-on, grown, taken, Wholes, joined, Mark, sent, marked}
+use Rattle.tally.specs.Observed.{lines-on, grown, taken, Wholes, joined, sent, marked}
 
 -- whole lines before whole lines
 pub wholes-append : (ls ms : List (List ℕ)) → Wholes ls → Wholes ms → Wholes (ls ++ ms)

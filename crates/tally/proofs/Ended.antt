@@ -13,26 +13,24 @@ use Rattle.command.specs.declared.fault.Fault.{Fault}
 use Rattle.command.specs.declared.refusal.Refusal.{Refusal}
 use Rattle.command.specs.declared.refusal.Refusal.the-variants.{AreaTooShort, OutOfStep, GreetingDue, TransferOpen}
 use Rattle.command.specs.declared.verb.Verb.the-variants.{«Type» as SetType}
-use Rattle.reply.specs.Replies.{Unread}
 use Rattle.reply.specs.declared.reply.Reply.{Reply}
 use Rattle.session.specs.Model.{Model, Desk}
 use Rattle.session.specs.Outcome.{Outcome, Called, wiped, past}
 use Rattle.session.specs.Calls.{none-read, refusal, long-enough, greeted-as, questions-of}
-use Rattle.std.specs.declared.option.Option.{Option}
-use Rattle.std.specs.declared.option.Option.the-variants.{Some, None}
+use Rattle.std.specs.declared.option.Option.the-variants.{None}
 use Rattle.std.specs.declared.result.Result.{Result}
 use Rattle.std.specs.declared.result.Result.the-variants.{Ok, Err}
 use Rattle.tally.specs.declared.calls.Ask.{Ask}
 use Rattle.tally.specs.declared.calls.Ask.the-variants.{Greet, Login, Plain, Rename, TransferType, Resume}
 use Rattle.tally.specs.declared.calls.Answer.{Answer}
 use Rattle.tally.specs.declared.calls.Answer.the-variants.{Refused}
-use Rattle.tally.specs.Observed.{Mark, greeting, joined, marked, by-ask}
+use Rattle.tally.specs.Observed.{greeting, joined, marked, by-ask}
 use Rattle.tally.specs.Tally.{Tally, on}
-use Rattle.tally.specs.Law.{Said, say, said-by, Accepts, handed, read-by, Own, Newest}
+use Rattle.tally.specs.Law.{Said, say, said-by, Accepts, handed, Own, Newest}
 use Rattle.tally.specs.Runs.{told, in-words}
 use Rattle.tally.proofs.Tallies.{never, with-more, none-more}
 use Rattle.tally.proofs.Logic.{Spoken, Tied, Does}
-use Rattle.tally.proofs.Refusals.{Early, last-read, read-early}
+use Rattle.tally.proofs.Refusals.{Early, read-early}
 
 -- at its end, from the tally t₀ where it began: the commands that it had accepted, and the reply that it hands out
 pub record Ended (ask : Ask) (t₀ : Tally) (a : Answer) (saids : List Said) (area : List ℕ) (t : Tally) : Type 0 where
@@ -89,6 +87,7 @@ moved-none c ask m t a n d e same tied post = record {
 abbrev First : Refusal → Type 0
 First n = leb (number-of n) 5 ≡ true
 
+-- such a line was not sent
 first-early : (n : Refusal) → First n → Early n
 first-early n h = let small = leb-true (number-of n) 5 h in le-leb (number-of n) 12 (omega arith)
 
@@ -110,12 +109,14 @@ none-accepted (Rename from to) n h = refl
 none-accepted (TransferType k) n h = ap (λ b. cond b [] (say SetType (type-text k) ∷ [])) (sym h)
 none-accepted (Resume k) n h = refl
 
+-- so the call comes to nothing
 refused-first : (c : Code) (ask : Ask) (m : Model) (t : Tally) (d : Desk) → Tied c m t → (n : Refusal) → First n → Moved c ask m t (record { answer = Refused (refusal n); after = m; desk = d })
 refused-first c ask m t d tied n h = moved-none c ask m t (Refused (refusal n)) m d (unmarked ask n h) refl tied (record {
   accepts = none-accepted ask n (first-early n h);
   newest = subst (λ r. Newest t t (Own ask t t) r (d .reply)) (sym (read-early n (first-early n h) None none-read)) refl;
 })
 
+-- a session that is in step has a tally that is whole
 in-step : (b : Bool) → true ≡ not b → b ≡ false
 in-step true e = absurd (never e)
 in-step false e = refl

@@ -5,10 +5,8 @@ use mathlib.Core.List.{List, [], _∷_, _++_, append-nil}
 use Prim.Native.Nat.{ℕ, _≤_, _<_}
 use lib.ListN.{length, take}
 use Rattle.text.specs.Area.{laid}
-use Rattle.link.specs.Wire.{Wire, leaving}
+use Rattle.link.specs.Wire.{leaving}
 use Rattle.encoding.specs.Code.{Code}
-use Rattle.command.specs.declared.fault.Fault.{Fault}
-use Rattle.command.specs.declared.refusal.Refusal.the-variants.{UnexpectedStatus}
 use Rattle.reply.specs.Replies.{Unread, Cut, cut, reply, count}
 use Rattle.reply.specs.Statuses.{expects}
 use Rattle.reply.specs.declared.reply.Reply.{Reply}
@@ -16,16 +14,15 @@ use Rattle.reply.specs.declared.reply.Rule.the-variants.{Usual}
 use Rattle.reply.specs.declared.status.Status.the-variants.{Ready}
 use Rattle.reply.proofs.Locality.{Known, reply-took}
 use Rattle.session.specs.Model.{Model, Desk, limit-of, with-wire}
-use Rattle.session.specs.Outcome.{Outcome, next, wiped}
+use Rattle.session.specs.Outcome.{next, wiped}
 use Rattle.session.specs.Calls.{hears, hear-of, welcomes, greeting-of}
-use Rattle.std.specs.declared.option.Option.{Option}
 use Rattle.std.specs.declared.option.Option.the-variants.{Some, None}
 use Rattle.std.specs.declared.result.Result.{Result}
 use Rattle.std.specs.declared.result.Result.the-variants.{Ok, Err}
 use Rattle.tally.specs.declared.calls.Ask.the-variants.{Greet}
-use Rattle.tally.specs.Observed.{Mark, greeting}
+use Rattle.tally.specs.Observed.{greeting}
 use Rattle.tally.specs.Tally.{Given, Tally, welcome, on}
-use Rattle.tally.specs.Law.{Own, Newest}
+use Rattle.tally.specs.Law.{Newest}
 use Rattle.tally.specs.Runs.{in-words, ask-of}
 use Rattle.tally.proofs.Tallies.{never, tallied}
 use Rattle.tally.proofs.Logic.{Tied}
@@ -40,6 +37,7 @@ module _ (code : Code) (m : Model) (lines : ℕ) (given : List Given) (tied : Ti
     abbrev given-now : Bool → Result Reply Unread → Tally
     given-now b r = tallied (limit-of m) (m .wire .ending) lines [] (record { line = 0; got = r; bytes = take (count r) took } ∷ given) b []
 
+    -- the tally at the greeting, by the reply that the bytes give
     at-mark : (p : Cut) → reply Usual (limit-of m) (m .wire .ending) took ≡ p → let t : Tally = tallied (limit-of m) (m .wire .ending) lines [] given false took in on t (greeting ∷ []) ≡ welcome t (p .got) (p .rest)
     at-mark p gave = let t : Tally = tallied (limit-of m) (m .wire .ending) lines [] given false took in ap (λ z. welcome t (z .got) (z .rest)) gave
 
@@ -95,6 +93,7 @@ module _ (code : Code) (m : Model) (lines : ℕ) (given : List Given) (tied : Ti
           post = record { accepts = refl; newest = subst (λ r. Newest (whole-tally m lines given) (given-now true (Err u)) (λ n. n ≡ 0) r (laid (take (u .length) (m .wire .coming)) (d .reply))) (sym (why .read)) (newest-now true (Err u) stored) };
         }
 
+  -- the whole greeting, from a tally that is whole
   greeted : Moved code Greet m (whole-tally m lines given) (in-words (wiped d (greeting-of m (d .reply))))
   unfolding hear-of
   greeted =

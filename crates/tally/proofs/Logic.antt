@@ -1,10 +1,9 @@
 -- A small logic of outcomes: what a piece of a call keeps between the session's model and the tally, and how pieces join.
 -- Assumes nothing.
 use mathlib.Core.Path.{_≡_, refl, sym, ap, _∙_}
-use mathlib.Core.Bool.{Bool, true, false, not}
+use mathlib.Core.Bool.{true, false, not}
 use mathlib.Core.List.{List, [], _∷_, _++_, append-nil, append-assoc}
 use Prim.Native.Nat.{ℕ}
-use Rattle.link.specs.Wire.{Wire}
 use Rattle.encoding.specs.Code.{Code}
 use Rattle.command.specs.Lines.{line-of}
 use Rattle.command.specs.declared.fault.Fault.{Fault}
@@ -26,6 +25,7 @@ Spoken c [] (l ∷ ls) = ⊥
 Spoken c (s ∷ ss) [] = ⊥
 Spoken c (s ∷ ss) (l ∷ ls) = (line-of c (s .verb) (s .argument) ≡ Ok l) × Spoken c ss ls
 
+-- commands before other commands
 spoken-append : (c : Code) (ss ts : List Said) (ls ms : List (List ℕ)) → Spoken c ss ls → Spoken c ts ms → Spoken c (ss ++ ts) (ls ++ ms)
 spoken-append c [] ts [] ms h g = g
 spoken-append c [] ts (l ∷ ls) ms h g = absurd h
@@ -94,10 +94,12 @@ does-weaken c Q R m t o imp d = record {
   post = imp (o .answer) (d .saids) (o .reply) (d .now) (d .post);
 }
 
+-- nothing before nothing
 none-two : (x y : List ℕ) → x ≡ [] → y ≡ [] → x ++ y ≡ []
 none-two x y h g = ap (λ z. z ++ y) h ∙ g
 
 module _ {X Y : Type 0} (c : Code) (Q : Result X Fault → List Said → List ℕ → Tally → Type 0) (R : Result Y Fault → List Said → List ℕ → Tally → Type 0) (k : X → Model → List ℕ → Outcome (Result Y Fault)) (m : Model) (t : Tally) where
+  -- the next piece, by what the first one answered
   joins : (n : Model) (area : List ℕ) (a : Result X Fault) → Does c m t (ends a n area) Q → ((x : X) (ss : List Said) (u : Tally) → Tied c n u → Q (Ok x) ss area u → Does c n u (k x n area) (λ y ts. R y (ss ++ ts))) → ((e : Fault) (ss : List Said) (u : Tally) → Q (Err e) ss area u → R (Err e) ss area u) → Does c m t (chain n area k a) R
   joins n area (Err e) d good bad = record {
     now = d .now;

@@ -2,7 +2,7 @@
 use mathlib.Core.Path.{_≡_, refl, sym, ap, subst, _∙_}
 use mathlib.Core.Bool.{Bool, true, false, cond}
 use mathlib.Core.List.{List, [], _∷_, _++_}
-use mathlib.Core.Logic.{_⊎_, inl, inr}
+use mathlib.Core.Logic.{inl, inr}
 use Prim.Native.Nat.{ℕ}
 use native.Mathlib.Omega.{arith}
 use lib.Dec.{eqb}
@@ -20,8 +20,7 @@ use Rattle.session.specs.Outcome.{Outcome, ends, past}
 use Rattle.session.specs.Calls.{none-read, questions-of, exchange-of, password-of, logging-in, renaming, verb-of, argument-of, statuses-of, resume-of}
 use Rattle.session.specs.declared.plain.Plain.{Plain as PlainCommand}
 use Rattle.session.specs.declared.plain.Plain.the-variants.{Cwd as DoCwd, Cdup as DoCdup, Dele as DoDele, Rmd as DoRmd, Mkd as DoMkd, Noop as DoNoop, Quit as DoQuit}
-use Rattle.std.specs.declared.option.Option.{Option}
-use Rattle.std.specs.declared.option.Option.the-variants.{Some, None}
+use Rattle.std.specs.declared.option.Option.the-variants.{Some}
 use Rattle.std.specs.declared.result.Result.{Result}
 use Rattle.std.specs.declared.result.Result.the-variants.{Ok, Err}
 use Rattle.tally.specs.declared.calls.Ask.{Ask}
@@ -59,6 +58,7 @@ by-lines code ask m t d o A unmarked ends tied does = moved-past code ask true m
 abbrev One : Said → Answer → List Said → Type 0
 One s a saids = saids ≡ one-of s a
 
+-- its line and reply
 does-one : (code : Code) (s : Said) (expected : List Status) (m : Model) (t : Tally) (area : List ℕ) → Tied code m t → t .broken ≡ false → Does code m t (exchange-of (s .verb) (s .argument) expected none-read m area) (Through (One s) t)
 does-one code s expected m t area tied e = does-weaken code (Exchanged s expected t) (Through (One s) t) m t _ one-line (does-exchange code s expected none-read t m t area e tied (begins t area))
   where
@@ -101,19 +101,23 @@ need-password n e = ap preliminary (eqb-true n 331 e)
 
 -- USER, and PASS after 331
 module _ (code : Code) (user password : List ℕ) (t₀ : Tally) where
+  -- what a login comes to
   abbrev Logged : Result Reply Fault → List Said → List ℕ → Tally → Type 0
   Logged r saids area t = Through (Login-accepts (say User user) (say Pass password)) t₀ r saids area t
 
+  -- what PASS comes to behind USER
   after-user : (r : Result Reply Fault) (before more : List Said) (area : List ℕ) (t : Tally) → before ≡ say User user ∷ [] → Exchanged (say Pass password) (LoggedIn ∷ []) t₀ r more area t → Logged r (before ++ more) area t
   after-user (Ok c) before more area t h q = (inr (ap (λ z. z ++ more) h ∙ ap (λ z. say User user ∷ z) (q .said)), q .sofar)
   after-user (Err e) before more area t h q = (second-stopped (say User user) (say Pass password) e before more refl refl (q .verb) h (q .said), q .sofar)
 
+  -- PASS, if the reply to USER asks for it
   does-password : (c : Reply) (saids : List Said) (m : Model) (t : Tally) (area : List ℕ) → Tied code m t → Settled (say User user) (LoggedIn ∷ NeedPassword ∷ []) t₀ c saids area t → (b : Bool) → eqb (c .code) (status-code NeedPassword) ≡ b → Does code m t (cond b (exchange-of Pass (Some password) (LoggedIn ∷ []) c m area) (ends (Ok c) m area)) (λ r more. Logged r (saids ++ more))
   does-password c saids m t area tied h true e =
       does-weaken code (Exchanged (say Pass password) (LoggedIn ∷ []) t₀) (λ r more. Logged r (saids ++ more)) m t _ (λ r more a u q. after-user r saids more a u (h .said) q)
       (does-exchange code (say Pass password) (LoggedIn ∷ []) c t₀ m t area (h .whole (need-password (c .code) e)) tied (last-sofar t₀ t c area (h .some) (h .sofar)))
   does-password c saids m t area tied h false e = does-ends code (λ r more. Logged r (saids ++ more)) m t (Ok c) area tied (inl (ap (λ z. z ++ []) (h .said)), h .sofar)
 
+-- the whole login
 does-login : (code : Code) (user password : List ℕ) (m : Model) (t : Tally) (area : List ℕ) → Tied code m t → t .broken ≡ false → Does code m t (logging-in user password m area) (Through (Login-accepts (say User user) (say Pass password)) t)
 does-login code user password m t area tied e =
     does-next code (Exchanged (say User user) (LoggedIn ∷ NeedPassword ∷ []) t) (Logged code user password t) (password-of password) m t
@@ -132,18 +136,22 @@ pending n e = by (eqb 350 n) refl e
 
 -- RNFR, and RNTO after 350
 module _ (code : Code) (from to : List ℕ) (t₀ : Tally) where
+  -- what a rename comes to
   abbrev Renamed : Result Reply Fault → List Said → List ℕ → Tally → Type 0
   Renamed r saids area t = Through (Rename-accepts (say Rnfr from) (say Rnto to)) t₀ r saids area t
 
+  -- what RNTO comes to behind RNFR
   after-from : (r : Result Reply Fault) (before more : List Said) (area : List ℕ) (t : Tally) → before ≡ say Rnfr from ∷ [] → Exchanged (say Rnto to) (RequestedFileActionOk ∷ CommandOk ∷ []) t₀ r more area t → Renamed r (before ++ more) area t
   after-from (Ok c) before more area t h q = (ap (λ z. z ++ more) h ∙ ap (λ z. say Rnfr from ∷ z) (q .said), q .sofar)
   after-from (Err e) before more area t h q = (second-stopped (say Rnfr from) (say Rnto to) e before more refl refl (q .verb) h (q .said), q .sofar)
 
+  -- RNTO
   does-to : (c : Reply) (saids : List Said) (m : Model) (t : Tally) (area : List ℕ) → Tied code m t → Settled (say Rnfr from) (RequestFilePending ∷ []) t₀ c saids area t → Does code m t (exchange-of Rnto (Some to) (RequestedFileActionOk ∷ CommandOk ∷ []) c m area) (λ r more. Renamed r (saids ++ more))
   does-to c saids m t area tied h =
       does-weaken code (Exchanged (say Rnto to) (RequestedFileActionOk ∷ CommandOk ∷ []) t₀) (λ r more. Renamed r (saids ++ more)) m t _ (λ r more a u q. after-from r saids more a u (h .said) q)
       (does-exchange code (say Rnto to) (RequestedFileActionOk ∷ CommandOk ∷ []) c t₀ m t area (h .whole (pending (c .code) (h .status))) tied (last-sofar t₀ t c area (h .some) (h .sofar)))
 
+-- the whole rename
 does-rename : (code : Code) (from to : List ℕ) (m : Model) (t : Tally) (area : List ℕ) → Tied code m t → t .broken ≡ false → Does code m t (renaming from to m area) (Through (Rename-accepts (say Rnfr from) (say Rnto to)) t)
 does-rename code from to m t area tied e =
     does-next code (Exchanged (say Rnfr from) (RequestFilePending ∷ []) t) (Renamed code from to t) (exchange-of Rnto (Some to) (RequestedFileActionOk ∷ CommandOk ∷ [])) m t

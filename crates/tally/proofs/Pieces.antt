@@ -1,20 +1,19 @@
 -- What a line and the reply that settles it do. Assumes nothing.
 use mathlib.Core.Path.{_≡_, refl, sym, ap, subst, _∙_}
-use mathlib.Core.Bool.{Bool, true, false, cond, not}
+use mathlib.Core.Bool.{Bool, true, false, cond}
 use mathlib.Core.List.{List, [], _∷_, _++_, append-nil}
 use Prim.Native.Nat.{ℕ, suc, _≤_, _<_}
 use native.Mathlib.Omega.{arith}
 use lib.ListN.{length, take, length-append}
 use Rattle.std.proofs.shelf.Lists.{take-at, take-append-le, length-take-le}
 use Rattle.text.specs.Area.{laid}
-use Rattle.link.specs.Wire.{Wire, fits, sending, leaving}
+use Rattle.link.specs.Wire.{fits, sending, leaving}
 use Rattle.encoding.specs.Code.{Code}
 use Rattle.command.specs.Lines.{line-of}
 use Rattle.command.specs.declared.fault.Fault.{Fault}
 use Rattle.command.specs.declared.refusal.Refusal.{Refusal}
 use Rattle.command.specs.declared.refusal.Refusal.the-variants.{LinkFull, UnexpectedStatus}
-use Rattle.command.specs.declared.verb.Verb.{Verb}
-use Rattle.reply.specs.Replies.{Unread, Cut, cut, reply, count, fault-of}
+use Rattle.reply.specs.Replies.{Unread, Cut, cut, reply, count}
 use Rattle.reply.specs.Statuses.{expects, preliminary}
 use Rattle.reply.specs.declared.reply.Reply.{Reply}
 use Rattle.reply.specs.declared.reply.Rule.the-variants.{Usual}
@@ -24,10 +23,10 @@ use Rattle.session.specs.Model.{Model, limit-of, with-wire, with-step}
 use Rattle.session.specs.Outcome.{Outcome, ends, next}
 use Rattle.session.specs.Calls.{fault, puts, performs, perform-of, hears, hear-of, expected-of, settles, exchange-of}
 use Rattle.std.specs.declared.option.Option.{Option}
-use Rattle.std.specs.declared.option.Option.the-variants.{Some, None}
+use Rattle.std.specs.declared.option.Option.the-variants.{Some}
 use Rattle.std.specs.declared.result.Result.{Result}
 use Rattle.std.specs.declared.result.Result.the-variants.{Ok, Err}
-use Rattle.tally.specs.Observed.{Mark, sent}
+use Rattle.tally.specs.Observed.{sent}
 use Rattle.tally.specs.Tally.{Given, Tally, gives, settle, one-more, on}
 use Rattle.tally.specs.Law.{Said, unsent, read-by, Accepted, Newest}
 use Rattle.tally.proofs.Tallies.{never, tallied}
@@ -53,6 +52,7 @@ pub record Stopped (s : Said) (t₀ : Tally) (e : Fault) (saids : List Said) (ar
   pub verb : e .verb ≡ Some (s .verb)
   pub sofar : Sofar t₀ t (read-by e) area
 
+-- a line and its reply, by the answer
 abbrev pub Exchanged : Said → List Status → Tally → Result Reply Fault → List Said → List ℕ → Tally → Type 0
 Exchanged s expected t₀ (Ok c) saids area t = Settled s expected t₀ c saids area t
 Exchanged s expected t₀ (Err e) saids area t = Stopped s t₀ e saids area t
@@ -61,6 +61,7 @@ Exchanged s expected t₀ (Err e) saids area t = Stopped s t₀ e saids area t
 abbrev pub whole-tally : Model → ℕ → List Given → Tally
 whole-tally m lines given = tallied (limit-of m) (m .wire .ending) lines [] given false []
 
+-- every tally is so that agrees with the session and did not break
 pub whole-same : (c : Code) (m : Model) (t : Tally) → Tied c m t → t .broken ≡ false → whole-tally m (t .lines) (t .given) ≡ t
 whole-same c m t h e =
     ap (λ z. tallied z (m .wire .ending) (t .lines) [] (t .given) false []) (sym (h .limit))
@@ -87,6 +88,7 @@ module _ (code : Code) (s : Said) (expected : List Status) (t₀ : Tally) (m : M
     abbrev given-now : List ℕ → Bool → Result Reply Unread → Tally
     given-now u b r = tallied (limit-of m) (m .wire .ending) (suc lines) u (record { line = lines; got = r; bytes = take (count r) took } ∷ given) b []
 
+    -- the tally at the line, by the reply that the bytes give
     at-mark : (p : Cut) → reply Usual (limit-of m) (m .wire .ending) took ≡ p → let t : Tally = tallied (limit-of m) (m .wire .ending) lines [] given false took in on t (sent l ∷ []) ≡ one-more (settle lines t (p .got) (p .rest))
     at-mark p gave = let t : Tally = tallied (limit-of m) (m .wire .ending) lines [] given false took in ap (λ z. one-more (settle lines t (z .got) (z .rest))) gave
 
@@ -94,12 +96,14 @@ module _ (code : Code) (s : Said) (expected : List Status) (t₀ : Tally) (m : M
     abbrev area-now : Result Reply Unread → List ℕ
     area-now r = laid (take (count r) (m .wire .coming)) area
 
+    -- it is the newest reply, and stands in the area
     sofar-now : (u : List ℕ) (b : Bool) (r : Result Reply Unread) → count r ≤ length took → Sofar t₀ (given-now u b r) (Some r) (area-now r)
     sofar-now u b r stored = record {
       more = omega arith;
       newest = (lines, (refl, more), (given, ap (λ z. record { line = lines; got = r; bytes = z } ∷ given) (sym (front-is (count r) (m .wire .coming) took rest area whole stored))));
     }
 
+    -- the session with the line sent and the reply read
     abbrev model-now : Model
     model-now = with-wire (leaving rest (sending l (m .wire))) m
 
@@ -164,20 +168,24 @@ module _ (code : Code) (s : Said) (expected : List Status) (t₀ : Tally) (m : M
     abbrev answered : Unit {0} → Model → List ℕ → Outcome (Result Reply Fault)
     answered _ m₁ a₁ = next (hear-of (Some (s .verb)) m₁ a₁) (settles expected (s .verb))
 
+    -- the reply to a line that was sent
     hear : (l : List ℕ) → line-of code (s .verb) (s .argument) ≡ Ok l → Does code m (whole-tally m lines given) (answered tt (with-wire (sending l (m .wire)) m) area) (Exchanged s expected t₀)
     unfolding hear-of
     hear l speaks =
         let p = reply-took (limit-of m) (m .wire .ending) Usual (m .wire .coming) in
         heard l speaks (p .took) (reply Usual (limit-of m) (m .wire .ending) (m .wire .coming) .rest) (p .whole) (sofar .more) (reply Usual (limit-of m) (m .wire .ending) (m .wire .coming) .got) (p .same) (p .stored) (p .known)
 
+    -- the line, by whether the link takes it
     put : (l : List ℕ) → line-of code (s .verb) (s .argument) ≡ Ok l → (b : Bool) → fits l (m .wire) ≡ b → Does code m (whole-tally m lines given) (next (puts b l (s .verb) last m area) answered) (Exchanged s expected t₀)
     put l speaks false e = refused LinkFull refl
     put l speaks true e = subst (λ w. Does code m (whole-tally m lines given) (answered tt (with-wire w m) area) (Exchanged s expected t₀)) (ap (λ b. cond b (sending l (m .wire)) (m .wire)) (sym e)) (hear l speaks)
 
+    -- the line, by whether it passed its questions
     perform : (r : Result (List ℕ) Refusal) → line-of code (s .verb) (s .argument) ≡ r → Does code m (whole-tally m lines given) (next (performs r (s .verb) last m area) answered) (Exchanged s expected t₀)
     perform (Ok l) e = put l e (fits l (m .wire)) refl
     perform (Err n) e = refused n (line-early code (s .verb) (s .argument) n e)
 
+    -- the whole exchange, from a tally that is whole
     exchange : Does code m (whole-tally m lines given) (exchange-of (s .verb) (s .argument) expected last m area) (Exchanged s expected t₀)
     unfolding exchange-of perform-of
     exchange = perform (line-of (m .code) (s .verb) (s .argument)) (ap (λ z. line-of z (s .verb) (s .argument)) (sym (tied .code)))

@@ -2,7 +2,7 @@
 use mathlib.Core.Path.{_≡_, refl, sym, ap, _∙_}
 use mathlib.Core.Bool.{Bool, true, false, cond, _&&_}
 use mathlib.Core.List.{List, []}
-use Prim.Native.Nat.{ℕ, _≤_, _<_}
+use Prim.Native.Nat.{ℕ, _<_}
 use native.Mathlib.Omega.{arith}
 use lib.Dec.{eqb, leb}
 use lib.ListN.{length}
@@ -13,14 +13,13 @@ use Rattle.link.specs.declared.wire.Ending.the-variants.{Closed, Broken}
 use Rattle.text.specs.Utf8.{utf8}
 use Rattle.command.specs.Lines.{text-of, one-line, line-ended, line-body, argument-refused, line-refused, unless, checked, encoded, line-of}
 use Rattle.command.specs.Refusals.{number-of}
-use Rattle.command.specs.declared.fault.Fault.{Fault}
 use Rattle.command.specs.declared.refusal.Refusal.{Refusal}
 use Rattle.command.specs.declared.refusal.Refusal.the-variants.{ArgumentTooLong, ArgumentNotUtf8, ArgumentNotOneLine, NoEncoding, LineNotEnded, LineNotOne}
 use Rattle.command.specs.declared.verb.Verb.{Verb}
 use Rattle.reply.specs.Replies.{Unread, lost, fault-of}
 use Rattle.reply.specs.declared.reply.Reply.{Reply}
 use Rattle.reply.proofs.Locality.{Reason, ended, too-long, ill-begun}
-use Rattle.session.specs.Calls.{none-read, fault}
+use Rattle.session.specs.Calls.{fault}
 use Rattle.std.specs.declared.option.Option.{Option}
 use Rattle.std.specs.declared.option.Option.the-variants.{Some, None}
 use Rattle.std.specs.declared.result.Result.{Result}
@@ -33,14 +32,17 @@ use Rattle.tally.proofs.Tallies.{never}
 abbrev pub Early : Refusal → Type 0
 Early n = leb (number-of n) 12 ≡ true
 
+-- the same of a refusal, if there is one
 abbrev EarlyIfAny : Option Refusal → Type 0
 EarlyIfAny None = Unit {0}
 EarlyIfAny (Some n) = Early n
 
+-- and of a line, if it is refused
 abbrev EarlyIfRefused : Result (List ℕ) Refusal → Type 0
 EarlyIfRefused (Ok l) = Unit {0}
 EarlyIfRefused (Err n) = Early n
 
+-- the questions on the argument
 early-argument : (argument : Option (List ℕ)) → EarlyIfAny (argument-refused argument)
 early-argument None = tt
 early-argument (Some argument) = by (leb (length argument) 4096) (utf8 argument) (one-line argument)
@@ -51,10 +53,12 @@ early-argument (Some argument) = by (leb (length argument) 4096) (utf8 argument)
     by true false one = refl
     by false valid one = refl
 
+-- the first of two refusals
 early-unless : (why : Option Refusal) (r : Result (List ℕ) Refusal) → EarlyIfAny why → EarlyIfRefused r → EarlyIfRefused (unless why r)
 early-unless None r h g = g
 early-unless (Some n) r h g = h
 
+-- the questions on the encoded line
 early-checked : (line : List ℕ) → EarlyIfRefused (checked line)
 early-checked line = early-unless (line-refused line) (Ok _) (by (line-ended line) (one-line (line-body line))) tt
   where
@@ -63,6 +67,7 @@ early-checked line = early-unless (line-refused line) (Ok _) (by (line-ended lin
     by true false = refl
     by false one = refl
 
+-- whether there is an encoded line
 early-encoded : (line : Option (List ℕ)) → EarlyIfRefused (encoded line)
 early-encoded None = refl
 early-encoded (Some line) = by (leb (length line) 4352)
@@ -84,6 +89,7 @@ line-early code v argument n e = at (line-of code v argument) e (early-unless (a
 abbrev pub last-read : Reply → Option (Result Reply Unread)
 last-read c = cond (eqb (c .length) 0) None (Some (Ok c))
 
+-- a reply that has a byte was read
 pub last-some : (c : Reply) → 0 < c .length → last-read c ≡ Some (Ok c)
 last-some c h = ap (λ b. cond b None (Some (Ok c))) (ne-eqb (c .length) 0 (λ e. omega arith))
 
@@ -111,10 +117,12 @@ late-by v why n rest k e h = record {
   over = λ b. h .over (ap by-end (sym e) ∙ b);
 }
 
+-- the link has ended
 late-lost : (v : Option Verb) (ending : Ending) (n : ℕ) (rest : List ℕ) → rest ≡ [] → Late v (record { why = lost ending; length = n }) rest
 late-lost v Closed n rest h = record { sent = refl; asked = refl; read = refl; over = λ _. h }
 late-lost v Broken n rest h = record { sent = refl; asked = refl; read = refl; over = λ _. h }
 
+-- for each reason
 pub late : (v : Option Verb) (ending : Ending) (u : Unread) (rest : List ℕ) → Reason ending u rest → Late v u rest
 late v ending u rest (ended e none) = late-by v (u .why) (u .length) rest (lost ending) e (late-lost v ending (u .length) rest none)
 late v ending u rest (too-long e) = late-by v (u .why) (u .length) rest _ e (record { sent = refl; asked = refl; read = refl; over = λ b. absurd (never (sym b)) })

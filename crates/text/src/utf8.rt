@@ -80,8 +80,6 @@ pub fn sequence(bytes: &[u8]) -> Sequence
 }
 
 // A theorem: bytes are UTF-8 exactly where they are sequences of the table, one after another.
-pub fn utf8_by_table() -> u8
+pub fn utf8_by_table()
     ensures { λ _. ⌜ Utf8-by-table ⌝ }
-{
-    0
-}
+{}

@@ -1,0 +1,4 @@
+mod Numbers
+mod Quotes
+mod Choices
+mod Cuts
