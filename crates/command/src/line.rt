@@ -199,7 +199,7 @@ pub fn unescape_telnet_iac(bytes: &[u8], area: &mut [u8]) -> Option<usize>
 // Encodes the text to the front of the area, and asks what the encoded line is asked.
 fn encode_text<E: Encoding>(encoding: &E, text: &[u8], narrow: &mut [u8]) -> Result<usize, Refusal>
     requires { length narrow.old ≡ 4352 }
-    ensures line { escaped (line_told result narrow.new) ≡ encoded ((means encoding.now).encode text.now) }
+    ensures line { escaped (line_told result narrow.new) ≡ encoded ((E.means encoding.now).encode text.now) }
     ensures within { line_length result ≤ 4352 }
 {
     let Some(length) = encoding.encode(text, narrow) else {
@@ -217,7 +217,7 @@ fn make_line<E: Encoding>(
     narrow: &mut [u8],
 ) -> Result<usize, Refusal>
     requires { (8704 ≤ length wide.old) × (4352 ≤ length narrow.old) }
-    ensures line { line_told result wide.new ≡ line_of (means encoding.now) command.entry.verb (option_map (λ x. x.now) command.entry.argument) }
+    ensures line { line_told result wide.new ≡ line_of (E.means encoding.now) command.entry.verb (option_map (λ x. x.now) command.entry.argument) }
     ensures within { line_length result ≤ 8704 }
 {
     validate_command_line(command.argument)?;
@@ -234,7 +234,7 @@ pub fn encode_line<E: Encoding>(
     wide: &mut [u8],
     narrow: &mut [u8],
 ) -> Result<usize, Refusal>
-    ensures line { line_told result wide.new ≡ line_in (length wide.old) (length narrow.old) (line_of (means encoding.now) command.entry.verb (option_map (λ x. x.now) command.entry.argument)) }
+    ensures line { line_told result wide.new ≡ line_in (length wide.old) (length narrow.old) (line_of (E.means encoding.now) command.entry.verb (option_map (λ x. x.now) command.entry.argument)) }
     ensures within { line_length result ≤ 8704 }
     ensures kept { areas_serve (length wide.old) (length narrow.old) ≡ false → (wide.new ≡ wide.old) × (narrow.new ≡ narrow.old) }
 {

@@ -7,8 +7,8 @@ use crate::wire::BrokenLink;
 
 // The next byte, or none where the link is closed.
 pub fn read_byte<L: Link>(link: &mut L) -> Result<Option<u8>, BrokenLink>
-    ensures value { result ≡ next_byte (means link.old) }
-    ensures after { means link.new ≡ past 1 (means link.old) }
+    ensures value { result ≡ next_byte (L.means link.old) }
+    ensures after { L.means link.new ≡ past 1 (L.means link.old) }
 {
     let mut one = [0u8; 1];
     let count = link.pull(&mut one)?;

@@ -23,8 +23,8 @@ fn unfinished(refusal: Refusal, verb: Option<Verb>, stored: usize) -> Fault
 
 // The next byte of a reply, or the fault that its link has ended.
 fn next_byte<L: Link>(link: &mut L, stored: usize, verb: Option<Verb>) -> Result<u8, Fault>
-    ensures value { result ≡ came verb stored (means link.old).ending (means link.old).coming }
-    ensures after { means link.new ≡ past 1 (means link.old) }
+    ensures value { result ≡ came verb stored (L.means link.old).ending (L.means link.old).coming }
+    ensures after { L.means link.new ≡ past 1 (L.means link.old) }
 {
     match read_byte(link) {
         Ok(Some(byte)) => Ok(byte),
@@ -41,8 +41,8 @@ pub fn read_response<L: Link>(
     rule: Rule,
     verb: Option<Verb>,
 ) -> Result<Reply, Fault>
-    ensures reads { record { answer = result; area = area.new; link = means link.new } ≡ heard verb (reply rule (length area.old) (means link.old).ending (means link.old).coming) area.old (means link.old) }
-    ensures rfc { ByGrammar rule (length area.old) (means link.old).coming result }
+    ensures reads { record { answer = result; area = area.new; link = L.means link.new } ≡ heard verb (reply rule (length area.old) (L.means link.old).ending (L.means link.old).coming) area.old (L.means link.old) }
+    ensures rfc { ByGrammar rule (length area.old) (L.means link.old).coming result }
 {
     let mut place = Place::First(rule);
     let mut start = 0;

@@ -7,15 +7,15 @@ use Rattle.command.proofs.line.write_escaped.Goals.{then-byte, else-byte}
 pub bounds-area-end : goal.bounds-area-end
 bounds-area-end c = omega (arith, room _ _ _ _ _ _ c.requires c.loop-byte.invariant (escape-next _ _ c.loop-byte-test.true).1)
 
-pub overflow-add-end : goal.overflow-add-end
-overflow-add-end c = omega (arith, room _ _ _ _ _ _ c.requires c.loop-byte.invariant (escape-next _ _ c.loop-byte-test.true).1)
+pub overflow_add-end : goal.overflow_add-end
+overflow_add-end c = omega (arith, room _ _ _ _ _ _ c.requires c.loop-byte.invariant (escape-next _ _ c.loop-byte-test.true).1)
 
 pub bounds-area-end-then-byte : goal.bounds-area-end-then-byte
 bounds-area-end-then-byte c =
     simp length-set (omega (arith, room _ _ _ _ _ _ c.requires c.loop-byte.invariant (escape_iac _ _ c.loop-byte-test.true c.if-byte.true)))
 
-pub overflow-add-end-then-byte : goal.overflow-add-end-then-byte
-overflow-add-end-then-byte c = omega (arith, room _ _ _ _ _ _ c.requires c.loop-byte.invariant (escape_iac _ _ c.loop-byte-test.true c.if-byte.true))
+pub overflow_add-end-then-byte : goal.overflow_add-end-then-byte
+overflow_add-end-then-byte c = omega (arith, room _ _ _ _ _ _ c.requires c.loop-byte.invariant (escape_iac _ _ c.loop-byte-test.true c.if-byte.true))
 
 pub loop-byte-preserved : goal.loop-byte-preserved
 loop-byte-preserved c =

@@ -3,5 +3,5 @@ use Rattle.std.proofs.Common.{rules}
 use Rattle.script.proofs.Choices.{apart}
 use Rattle.script.proofs.choice.format_control.Goals as goal
 
-pub returns-in-default : goal.returns-in-default
-returns-in-default c = search (rules, apart)
+pub returns-in_default : goal.returns-in_default
+returns-in_default c = search (rules, apart)

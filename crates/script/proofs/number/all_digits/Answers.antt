@@ -4,8 +4,8 @@ use Rattle.std.proofs.lemmas.List.{drop_all}
 use Rattle.script.proofs.Numbers.{all_digits_more}
 use Rattle.script.proofs.number.all_digits.Goals as goal
 
-pub returns-then-not-is-digit : goal.returns-then-not-is-digit
-returns-then-not-is-digit c = search (rules, all_digits_more c.args.word.now c.loop-byte.byte-index)
+pub returns-then-not-is_digit : goal.returns-then-not-is_digit
+returns-then-not-is_digit c = search (rules, all_digits_more c.args.word.now c.loop-byte.byte-index)
 
 pub loop-byte-preserved : goal.loop-byte-preserved
 loop-byte-preserved c = search (rules, all_digits_more c.args.word.now c.loop-byte.byte-index)

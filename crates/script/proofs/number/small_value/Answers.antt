@@ -4,11 +4,11 @@ use Rattle.std.proofs.lemmas.List.{drop_all}
 use Rattle.script.proofs.Numbers.{value_more, value_past, value_kept}
 use Rattle.script.proofs.number.small_value.Goals as goal
 
-pub returns-in-err-checked-mul : goal.returns-in-err-checked-mul
-returns-in-err-checked-mul c = rw c.from-residual.ensures (sym (value_past c.loop-byte.value c.args.word.now c.loop-byte.byte-index _ c.loop-byte-test.true (omega (arith, c.in-err-checked-mul.ensures)) c.loop-byte.invariant.0))
+pub returns-in_err-checked_mul : goal.returns-in_err-checked_mul
+returns-in_err-checked_mul c = rw c.from_residual.ensures (sym (value_past c.loop-byte.value c.args.word.now c.loop-byte.byte-index _ c.loop-byte-test.true (omega (arith, c.in_err-checked_mul.ensures)) c.loop-byte.invariant.0))
 
-pub returns-in-err-value : goal.returns-in-err-value
-returns-in-err-value c = rw c.from-residual-in-err-value.ensures (sym (value_past c.loop-byte.value c.args.word.now c.loop-byte.byte-index _ c.loop-byte-test.true (omega (arith, c.in-err-value.ensures, c.in-ok-checked-mul.ensures)) c.loop-byte.invariant.0))
+pub returns-in_err-value : goal.returns-in_err-value
+returns-in_err-value c = rw c.from_residual-in_err-value.ensures (sym (value_past c.loop-byte.value c.args.word.now c.loop-byte.byte-index _ c.loop-byte-test.true (omega (arith, c.in_err-value.ensures, c.in_ok-checked_mul.ensures)) c.loop-byte.invariant.0))
 
 pub loop-byte-preserved : goal.loop-byte-preserved
 loop-byte-preserved c = search (rules, value_more c.loop-byte.value c.args.word.now c.loop-byte.byte-index)

@@ -10,5 +10,5 @@ returns-then-area-middle-2 c = unfit c.args.first.now c.args.second.now c.args.a
 
 pub returns : goal.returns
 returns c =
-    joined c.args.first.now c.args.second.now c.args.area.now _ _ _ _ c.copy-from-slice.ensures.after c.copy-from-slice-2.ensures.after
+    joined c.args.first.now c.args.second.now c.args.area.now _ _ _ _ c.copy_from_slice.ensures.after c.copy_from_slice-2.ensures.after
     (omega arith) (omega arith) (omega arith)

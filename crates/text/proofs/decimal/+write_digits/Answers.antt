@@ -18,15 +18,15 @@ returns-then-n-lt10 t c =
       count = sym one;
     }
 
-pub write-digits-last-requires : goal.write-digits-last-requires
-write-digits-last-requires t c =
+pub write_digits-last-requires : goal.write_digits-last-requires
+write_digits-last-requires t c =
     (omega (arith, c.decreases), omega (arith, length_step c.args.n c.if-n-lt10.false c.ranges.n.fits))
 
 pub bounds-area-last : goal.bounds-area-last
 bounds-area-last t c = omega (arith, length_step c.args.n c.if-n-lt10.false c.ranges.n.fits)
 
-pub overflow-add-result : goal.overflow-add-result
-overflow-add-result t c = omega (arith, length_most (c.args.n / 10) (let z : c.args.n / 10 < 2 ^ 64 = omega arith in z))
+pub overflow_add-result : goal.overflow_add-result
+overflow_add-result t c = omega (arith, length_most (c.args.n / 10) (let z : c.args.n / 10 < 2 ^ 64 = omega arith in z))
 
 pub returns : goal.returns
 returns t c =
@@ -34,8 +34,8 @@ returns t c =
     let step = length_step n c.if-n-lt10.false c.ranges.n.fits in
     let room : length (decimal (n / 10)) < length c.args.area.now = omega (arith, step) in
     record {
-      area = ap (λ z. set z c.write-digits-last.result (48 + n % 10)) c.write-digits-last.ensures.area
-          ∙ ap (λ k. set (laid (decimal (n / 10)) c.args.area.now) k (48 + n % 10)) c.write-digits-last.ensures.count
+      area = ap (λ z. set z c.write_digits-last.result (48 + n % 10)) c.write_digits-last.ensures.area
+          ∙ ap (λ k. set (laid (decimal (n / 10)) c.args.area.now) k (48 + n % 10)) c.write_digits-last.ensures.count
           ∙ laid_push _ _ _ room
           ∙ ap (λ z. laid z c.args.area.now) (sym (decimal_step n c.if-n-lt10.false c.ranges.n.fits));
       count = omega (arith, step);

@@ -17,7 +17,7 @@ returns-in-240 c = let e = c.in-240.is in second_is _ _ _ _ c.requires.0 c.if-pl
 pub returns-in-244 : goal.returns-in-244
 returns-in-244 c = let e = c.in-244.is in second_is _ _ _ _ c.requires.0 c.if-place-gt1.false c.requires.1 (rw e)
 
-pub returns-in-default : goal.returns-in-default
-returns-in-default c =
+pub returns-in_default : goal.returns-in_default
+returns-in_default c =
     second_is _ _ _ _ c.requires.0 c.if-place-gt1.false c.requires.1
     (plain c.args.first (λ e. omega arith) (λ e. omega arith) (λ e. omega arith) (λ e. omega arith))

@@ -7,9 +7,9 @@ use Rattle.script.proofs.words.Words.word.Goals as goal
 pub returns : goal.returns
 returns c =
     record {
-      value = ap (λ (n : ℕ). take n c.args.self.now.rest.now) c.word-length-length.ensures.value;
+      value = ap (λ (n : ℕ). take n c.args.self.now.rest.now) c.word_length-length.ensures.value;
       after =
-          c.trim-front-self.ensures
-          ∙ ap trimmed (take_rest c.args.self.now.rest.now c.word-length-length.result
-          ∙ ap (λ (n : ℕ). drop n c.args.self.now.rest.now) c.word-length-length.ensures.value);
+          c.trim_front-self.ensures
+          ∙ ap trimmed (take_rest c.args.self.now.rest.now c.word_length-length.result
+          ∙ ap (λ (n : ℕ). drop n c.args.self.now.rest.now) c.word_length-length.ensures.value);
     }
