@@ -8,7 +8,7 @@ use Rattle.script.proofs.quote.read_quoted.Goals as goal
 pub pieces-preserved : goal.pieces-preserved
 pieces-preserved c = (
   omega (arith, simp (take_rest, length-drop) at c.in-Byte.ensures.within.1),
-  rw c.in_ok-push.ensures.items
+  rw c.in_ok-push-in-Byte.ensures.items
       (turn_byte _ c.args.text.now c.pieces.place c.in-Byte.byte c.in-Byte.length
       c.in-Byte.ensures.value c.pieces.invariant.1),
 )
