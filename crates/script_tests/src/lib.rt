@@ -54,7 +54,7 @@ mod tests {
     fn bytes_are_read(rt: HostRuntime) -> Result<(), Fail> {
         let text = "server \"220 h\\xC3\\xa9 é\\r\\n\" \nserver \"\\0\\t\\\\\\\"\"";
         let script = read(rt.alloc(), text)?;
-        assert!(rt; script.server.as_slice() == b"220 h\xc3\xa9 \xc3\xa9\r\n\0\t\\\"");
+        assert!(rt; script.server.as_slice() == b"220 h\xc3\xa9 \xc3\xa9\r\n\0\t\\\"".as_slice());
         Ok(())
     }
 

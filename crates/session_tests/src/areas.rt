@@ -27,7 +27,7 @@ fn areas_are_wiped(rt: HostRuntime) {
     assert!(rt; reply == [7; 12] && wide == [7; 8705] && narrow == [7; 4353]);
     let mut longer = [7; 600];
     assert_eq!(rt; greet_in(&mut longer, &mut wide, &mut narrow), 0);
-    assert!(rt; &longer[0..7] == b"220 a\r\n" && longer[7..600] == [7; 593]);
+    assert!(rt; &longer[0..7] == b"220 a\r\n".as_slice() && &longer[7..600] == [7; 593].as_slice());
     assert!(rt; wide == [0; 8705] && narrow == [0; 4353]);
 }
 
