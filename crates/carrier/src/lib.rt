@@ -1,4 +1,6 @@
 // The data side of a session: who dials or listens for a data connection, as far as the control session sees it.
+#![tactic(auto)]
+
 mod address;
 mod carrier;
 mod dialler;

@@ -1,4 +1,6 @@
 // The carriers on small runs.
+#![tactic(auto)]
+
 #[cfg(test)]
 mod tests {
     use carrier::{

@@ -1,4 +1,6 @@
 // Command lines: their verbs and texts, the questions a line is put, and why a call is refused.
+#![tactic(auto)]
+
 mod fault;
 mod laws;
 mod line;

@@ -1,4 +1,6 @@
 // Tests of the command lines on examples, with an encoding that leaves every text as it is.
+#![tactic(auto)]
+
 ghost use Rattle.std.specs.Prelude.{◌≡◌, Some};
 ghost use Rattle.text.specs.Area.{filled};
 ghost use Rattle.command_tests.specs.Asis.{as_is};

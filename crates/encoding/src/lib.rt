@@ -1,4 +1,6 @@
 // Character encodings of command lines and of the text read back.
+#![tactic(auto)]
+
 mod encoding;
 mod lossy;
 mod utf8;

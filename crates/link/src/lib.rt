@@ -1,4 +1,6 @@
 // The control connection below the session: bytes that go out and bytes that come in.
+#![tactic(auto)]
+
 mod buffers;
 mod link;
 mod read;

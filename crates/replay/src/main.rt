@@ -4,6 +4,8 @@
 //
 // Each FILE is played in turn; without one the script comes from standard input. After the word `rows` it prints one
 // line for each call, for machines, in the place of the account for people.
+#![tactic(auto)]
+
 mod moment;
 mod people;
 mod play;
@@ -14,14 +16,16 @@ use crate::play::play;
 use anyhow::anyhow;
 use script::parse;
 use std::io::Read;
+use std::process::ExitCode;
 use std::{env, fs};
 
-fn main(rt: HostRuntime) -> anyhow::Result<()> {
-    let result = replay(&rt);
-    if let Err(error) = &result {
+// An error is told in one line, and ends the program with status 1.
+fn main(rt: HostRuntime) -> anyhow::Result<ExitCode> {
+    if let Err(error) = replay(&rt) {
         eprintln!(rt; "replay: {error}")?;
+        return Ok(ExitCode::FAILURE);
     }
-    result
+    Ok(ExitCode::SUCCESS)
 }
 
 fn replay(rt: &HostRuntime) -> anyhow::Result<()> {

@@ -1,4 +1,6 @@
 // Replies of the server: their grammar, and the reader over any link.
+#![tactic(auto)]
+
 mod control;
 mod facts;
 mod lines;

@@ -1,4 +1,6 @@
 // Replies read over a link of two buffers.
+#![tactic(auto)]
+
 #[cfg(test)]
 mod tests {
     use command::Verb;

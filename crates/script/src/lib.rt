@@ -1,4 +1,6 @@
 // The text of a session to be played: its settings, the server's bytes, the host's answers and the calls.
+#![tactic(auto)]
+
 mod address;
 mod call;
 mod choice;

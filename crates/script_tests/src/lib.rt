@@ -1,4 +1,6 @@
 // Scripts read as a whole, and each thing that can be wrong with one.
+#![tactic(auto)]
+
 #[cfg(test)]
 mod tests {
     use carrier::{Entry, IpAddr, PeerRule, SocketAddr};

@@ -1,4 +1,6 @@
 // One FTP control session: a line at a time, and to each line its own reply.
+#![tactic(auto)]
+
 mod calls;
 mod control;
 mod plain;

@@ -1,4 +1,6 @@
 // The session's calls over a link of two buffers, with the encodings that make each refusal of a line.
+#![tactic(auto)]
+
 #[cfg(test)]
 mod areas;
 #[cfg(test)]

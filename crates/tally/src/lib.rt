@@ -1,4 +1,6 @@
 // Any list of calls on a new session, and the law that holds after each of them.
+#![tactic(auto)]
+
 mod calls;
 mod drive;
 mod law;

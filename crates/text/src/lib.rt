@@ -1,4 +1,6 @@
 // The text of the control connection: ASCII, decimal numerals and UTF-8.
+#![tactic(auto)]
+
 mod ascii;
 mod decimal;
 mod sequences;
