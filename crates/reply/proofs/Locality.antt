@@ -1,11 +1,11 @@
 -- What is known of a reply that is finished or not, and of the bytes that it took. Assumes nothing.
-use Rattle.std.proofs.Common.{◌≡◌, ℕ, ◌+◌, ◌<◌, ◌≤◌, List, [], ◌++◌, length, Ok, Err, Result, sym, refl, ap, ◌∙◌, subst, arith}
+use Rattle.std.proofs.Common.{◌≡◌, ℕ, ◌<◌, ◌≤◌, List, [], ◌++◌, length, Ok, Err, Result, sym, refl, ap, subst, arith}
 use Rattle.link.specs.declared.wire.Ending.{Ending}
 use Rattle.command.specs.declared.refusal.Refusal.TheVariants.{ReplyTooLong, ReplyIllBegun}
 use Rattle.reply.specs.declared.reply.Reply.{Reply}
 use Rattle.reply.specs.declared.reply.Rule.{Rule}
 use Rattle.reply.specs.Replies.{Unread, Cut, cut, lost, reply, count}
-use Rattle.reply.proofs.Replies.{Way, finished, ill, ended as cut_off, too_long as over-long, Took as Bytes, reply_took as bytes_of}
+use Rattle.reply.proofs.Replies.{Way, finished, ill, ended as cut_off, too_long as over-long, reply_took as bytes_of}
 
 -- why a reply is not finished; where the link has ended, nothing is left
 pub data Reason (ending : Ending) (u : Unread) (rest : List ℕ) : Type 0 where

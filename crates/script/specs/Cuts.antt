@@ -1,5 +1,5 @@
 -- Where lines, words and the parts of addresses end. Assumes nothing.
-use Rattle.std.specs.Prelude.{ℕ, ◌+◌, Bool, true, false, cond, not, List, [], ◌∷◌, length, take, drop, Some, None, Option, ◌==◌, nat_lt}
+use Rattle.std.specs.Prelude.{ℕ, ◌+◌, Bool, true, cond, not, List, [], length, take, drop, Some, None, Option, ◌==◌, nat_lt}
 use Rattle.std.specs.List.{prefix_len}
 
 -- Spaces and tabs separate words.

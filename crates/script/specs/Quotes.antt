@@ -1,5 +1,5 @@
 -- What a text in double quotes means, behind its opening quote. Assumes nothing.
-use Rattle.std.specs.Prelude.{ℕ, zero, suc, ◌+◌, ◌-◌, ◌<◌, ◌≤◌, Bool, true, false, cond, List, [], ◌∷◌, ◌++◌, length, Some, None, vec_items, Option, ◌==◌}
+use Rattle.std.specs.Prelude.{ℕ, zero, suc, ◌+◌, ◌-◌, ◌<◌, ◌≤◌, cond, List, [], ◌∷◌, ◌++◌, length, Some, None, vec_items, Option, ◌==◌}
 use Rattle.script.specs.Numbers.{hex_pair_of}
 use Rattle.script.specs.declared.quote.Piece.{Piece}
 use Rattle.script.specs.declared.quote.Piece.TheVariants.{Byte, Close, Unclosed, BadEscape}

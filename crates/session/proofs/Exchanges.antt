@@ -1,11 +1,11 @@
 -- A line with its reply, put together from both. Assumes nothing.
-use Rattle.std.proofs.Common.{◌≡◌, ℕ, List, Some, Ok, Err, Option, Result, sym, refl, ap, ◌∙◌}
+use Rattle.std.proofs.Common.{◌≡◌, ℕ, List, Some, Ok, Err, Option, Result, ap, ◌∙◌}
 use Rattle.command.specs.declared.fault.Fault.{Fault}
 use Rattle.command.specs.declared.verb.Verb.{Verb}
 use Rattle.reply.specs.declared.reply.Reply.{Reply}
 use Rattle.reply.specs.declared.status.Status.{Status}
 use Rattle.session.specs.Model.{Model}
-use Rattle.session.specs.Outcome.{Outcome, ends, next}
+use Rattle.session.specs.Outcome.{ends, next}
 use Rattle.session.specs.Calls.{perform_of, hear_of, expected_of, settled_by, settles, exchange_of}
 
 module _ (v : Verb) (argument : Option (List ℕ)) (ss : List Status) (last : Reply) (m : Model) (area : List ℕ) (m₁ : Model) where

@@ -1,16 +1,16 @@
 -- A reply read into the front of the reply area, as the session tells it. Assumes nothing.
-use Rattle.std.proofs.Common.{◌≡◌, ℕ, ◌+◌, ◌-◌, ◌≤◌, min, Bool, true, false, List, [], ◌∷◌, ◌++◌, length, take, drop, is_err, Ok, Err, Option, Result, sym, refl, ap, ◌∙◌, append_assoc, arith, length-take}
+use Rattle.std.proofs.Common.{◌≡◌, ℕ, ◌-◌, ◌≤◌, true, false, List, ◌++◌, length, take, drop, is_err, Ok, Err, Option, Result, sym, refl, ap, ◌∙◌, append_assoc, arith, length-take}
 use Rattle.std.proofs.lemmas.List.{take-append-drop, drop-append-le, length-take-le}
 use Rattle.text.specs.Area.{laid}
 use Rattle.link.specs.Wire.{Wire, leaving}
 use Rattle.command.specs.declared.fault.Fault.{Fault}
 use Rattle.command.specs.declared.verb.Verb.{Verb}
-use Rattle.reply.specs.Replies.{Cut, Unread, Heard, reply, count, answered, heard}
+use Rattle.reply.specs.Replies.{Unread, reply, count, answered, heard}
 use Rattle.reply.specs.declared.reply.Reply.{Reply}
 use Rattle.reply.specs.declared.reply.Rule.TheVariants.{Usual}
 use Rattle.reply.proofs.Replies.{reply_within}
 use Rattle.session.specs.Model.{Model, limit_of, with_wire, with_step}
-use Rattle.session.specs.Outcome.{Outcome, ends}
+use Rattle.session.specs.Outcome.{ends}
 use Rattle.session.specs.Calls.{hears, cut_of, hear_of}
 
 -- what is laid at the front of a part of an area is laid at the front of the area

@@ -1,7 +1,7 @@
 -- What each call answers and leaves. Assumes nothing.
 use Rattle.std.specs.Prelude.{ℕ, Bool, true, false, cond, ◌&&◌, List, [], ◌∷◌, length, take, Some, None, Ok, Err, Option, Result, ◌==◌, nat_le}
 use Rattle.text.specs.Area.{laid}
-use Rattle.link.specs.Wire.{Wire, fits, put_of, leaving}
+use Rattle.link.specs.Wire.{fits, put_of, leaving}
 use Rattle.command.specs.Lines.{line_of}
 use Rattle.command.specs.Types.{type_text}
 use Rattle.command.specs.declared.verb.Verb.{Verb}
@@ -10,7 +10,7 @@ use Rattle.command.specs.declared.types.FileType.{FileType}
 use Rattle.command.specs.declared.refusal.Refusal.{Refusal}
 use Rattle.command.specs.declared.refusal.Refusal.TheVariants.{AreaTooShort, OutOfStep, GreetingDue, TransferOpen, LinkFull, UnexpectedStatus}
 use Rattle.command.specs.declared.fault.Fault.{Fault}
-use Rattle.reply.specs.Replies.{Cut, Unread, reply, count, fault_of}
+use Rattle.reply.specs.Replies.{Cut, Unread, reply, fault_of}
 use Rattle.reply.specs.Statuses.{status_code, expects, preliminary}
 use Rattle.reply.specs.declared.reply.Reply.{Reply}
 use Rattle.reply.specs.declared.reply.Rule.TheVariants.{Usual}

@@ -1,5 +1,5 @@
 -- A call that is lent the first bytes of three areas. Assumes nothing.
-use Rattle.std.proofs.Common.{◌≡◌, ℕ, ◌-◌, min, List, ◌++◌, length, take, drop, sym, refl, ap, ◌∙◌, arith}
+use Rattle.std.proofs.Common.{◌≡◌, ℕ, ◌-◌, min, List, ◌++◌, length, take, drop, ap, ◌∙◌, arith}
 use Rattle.session.specs.Model.{Model, Desk, desk}
 use Rattle.session.specs.Outcome.{Called}
 use Rattle.tally.specs.declared.calls.Answer.{Answer}

@@ -1,12 +1,10 @@
 -- Any list of calls, from what one call does. Assumes nothing.
-use Rattle.std.proofs.Common.{◌≡◌, ℕ, Bool, true, false, List, [], ◌∷◌, ◌++◌, Ok, Option, sym, refl, ap, ◌∙◌, subst, append_assoc, append-nil, arith}
+use Rattle.std.proofs.Common.{◌≡◌, ℕ, List, [], ◌∷◌, ◌++◌, sym, refl, ap, ◌∙◌, subst, append_assoc, append-nil, arith}
 use Rattle.link.specs.Wire.{Wire}
 use Rattle.carrier.specs.Deck.{Deck}
 use Rattle.encoding.specs.Code.{Code, Back}
 use Rattle.command.proofs.Sent.{line_whole, line_back}
-use Rattle.command.specs.Laws.{Whole}
-use Rattle.command.specs.Lines.{text_of, unescape, line_of}
-use Rattle.command.specs.declared.verb.Verb.{Verb}
+use Rattle.command.specs.Lines.{text_of}
 use Rattle.session.specs.Model.{Model, Desk, fresh}
 use Rattle.session.specs.Outcome.{Called}
 use Rattle.session.specs.declared.settings.Settings.{Settings}
@@ -14,7 +12,7 @@ use Rattle.tally.specs.declared.calls.Answer.{Answer}
 use Rattle.tally.specs.declared.calls.Call.{Call}
 use Rattle.tally.specs.Observed.{Shown, Seen, lines_on, lines_in, lines_all, Wholes, joined, texts, marked, by_ask, marks_of, marks_all, taken, shown_after}
 use Rattle.tally.specs.Tally.{Tally, on, tally}
-use Rattle.tally.specs.Law.{Start, Said, texts_of, handed, Own, Newest, Stands, Replies, tally_of, Lawful}
+use Rattle.tally.specs.Law.{Start, Said, texts_of, handed, Own, Newest, Stands, Replies, tally_of}
 use Rattle.tally.specs.Runs.{made_of, areas_after, shows, seen_of, seen_all, start_of, EveryRun}
 use Rattle.tally.proofs.Cuts.{wholes_append, joined-append, lines_back, grown_is, taken_is}
 use Rattle.tally.proofs.Tallies.{never, with_more, goes_on}

@@ -1,6 +1,5 @@
 -- The law over any list of calls, said of what may be observed of them. Assumes nothing.
 use Rattle.std.specs.Prelude.{◌≡◌, ℕ, suc, ◌≤◌, Bool, true, false, cond, not, ◌&&◌, ◌⊎◌, List, [], ◌∷◌, ◌++◌, take, Some, None, Ok, Err, Option, Result, ◌==◌, nat_le}
-use Rattle.link.specs.Wire.{Wire}
 use Rattle.encoding.specs.Code.{Code}
 use Rattle.command.specs.Lines.{text_of}
 use Rattle.command.specs.Refusals.{number_of}

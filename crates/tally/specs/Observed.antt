@@ -1,6 +1,6 @@
 -- What may be observed of a run: each call with its answer, and what the session shows before and after it. The lines sent
 -- are read back from the bytes, and so is the text of each. Assumes nothing.
-use Rattle.std.specs.Prelude.{◌≡◌, ℕ, ◌-◌, Bool, cond, List, [], ◌∷◌, ◌++◌, length, take, drop, ◌==◌, nat_le}
+use Rattle.std.specs.Prelude.{ℕ, ◌-◌, cond, List, [], ◌∷◌, ◌++◌, length, take, drop, ◌==◌, nat_le}
 use Rattle.link.specs.Wire.{Wire}
 use Rattle.encoding.specs.Code.{Code}
 use Rattle.command.specs.Laws.{Whole}

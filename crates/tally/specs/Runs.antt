@@ -1,5 +1,5 @@
 -- A list of calls made one after another, and what is seen of them. Assumes nothing.
-use Rattle.std.specs.Prelude.{ℕ, min, List, [], ◌∷◌, ◌++◌, length, take, drop, Ok, Err, Result}
+use Rattle.std.specs.Prelude.{min, List, [], ◌∷◌, ◌++◌, length, take, drop, Ok, Err, Result}
 use Rattle.link.specs.Wire.{Wire}
 use Rattle.carrier.specs.Deck.{Deck}
 use Rattle.encoding.specs.Code.{Code, Back}

@@ -1,5 +1,5 @@
 -- One piece more, and each way in which a text ends. Assumes nothing.
-use Rattle.std.proofs.Common.{◌≡◌, ◌-◌, length, drop, arith, length-drop}
+use Rattle.std.proofs.Common.{arith, length-drop}
 use Rattle.std.proofs.lemmas.List.{take_rest}
 use Rattle.script.specs.declared.quote.Piece.TheVariants.{Unclosed, BadEscape}
 use Rattle.script.proofs.Quotes.{turn, turn_byte, turn_close}

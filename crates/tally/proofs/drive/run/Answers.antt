@@ -1,4 +1,4 @@
-use Rattle.std.proofs.Common.{◌≡◌, length, sym, refl, ap, ◌∙◌, subst, arith}
+use Rattle.std.proofs.Common.{◌≡◌, refl, ap, ◌∙◌, subst, arith}
 use Rattle.session.specs.Model.{model, desk}
 use Rattle.tally.specs.Runs.{after_all, areas_all, seen_all, rows_of, noted}
 use Rattle.tally.proofs.Runs.{every_run}

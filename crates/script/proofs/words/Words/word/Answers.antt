@@ -1,5 +1,5 @@
 -- The word, and what follows it. Assumes nothing.
-use Rattle.std.proofs.Common.{◌≡◌, ℕ, List, take, drop, ap, ◌∙◌}
+use Rattle.std.proofs.Common.{ℕ, take, drop, ap, ◌∙◌}
 use Rattle.std.proofs.lemmas.List.{take_rest}
 use Rattle.script.specs.Cuts.{trimmed}
 use Rattle.script.proofs.words.Words.word.Goals as goal

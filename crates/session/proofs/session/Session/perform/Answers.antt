@@ -1,4 +1,4 @@
-use Rattle.std.proofs.Common.{Err, sym, refl, ap, ◌∙◌}
+use Rattle.std.proofs.Common.{Err, refl, ap, ◌∙◌}
 use Rattle.session.specs.Model.{model, with_wire}
 use Rattle.session.specs.Outcome.{ends}
 use Rattle.session.proofs.Sending.{serves, is_sent, is_refused, is_unmade}
