@@ -15,8 +15,8 @@ escape_plain s i h e =
     at_drop_more escape s i 0 h ∙ ap (λ t. cond t (255 ∷ 255 ∷ escape (drop (i + 1) s)) (get_or s i 0 ∷ escape (drop (i + 1) s))) (ne_eqb _ _ e)
 
 -- there is a next byte
-pub escape-next : (s : List ℕ) (i : ℕ) → i < length s → (more : List ℕ) × (escape (drop i s) ≡ get_or s i 0 ∷ more)
-escape-next s i h = elim (cases_eq (get_or s i 0) 255) [ inl e ↦ (255 ∷ escape (drop (i + 1) s), escape_iac s i h e) | inr e ↦ (escape (drop (i + 1) s), escape_plain s i h e) ]
+pub escape_next : (s : List ℕ) (i : ℕ) → i < length s → (more : List ℕ) × (escape (drop i s) ≡ get_or s i 0 ∷ more)
+escape_next s i h = elim (cases_eq (get_or s i 0) 255) [ inl e ↦ (255 ∷ escape (drop (i + 1) s), escape_iac s i h e) | inr e ↦ (escape (drop (i + 1) s), escape_plain s i h e) ]
 
 pub escape_end : (s : List ℕ) (i : ℕ) → length s ≤ i → escape (drop i s) ≡ []
 escape_end s i h = at_drop_all escape s i h
@@ -27,10 +27,10 @@ unescape_second s i second h t e =
     ap (λ z. unescape_on z (drop i s)) t ∙ at_drop_more (unescape_on true) s i 0 h
     ∙ ap (λ u. cond u (unescape_on false (drop (i + 1) s)) (get_or s i 0 ∷ unescape_on false (drop (i + 1) s))) (eq-eqb _ _ e)
 
-pub unescape-first : (s : List ℕ) (i : ℕ) (second : Bool) → i < length s → (second && eqb (get_or s i 0) 255) ≡ false
+pub unescape_first : (s : List ℕ) (i : ℕ) (second : Bool) → i < length s → (second && eqb (get_or s i 0) 255) ≡ false
     → unescape_on second (drop i s) ≡ get_or s i 0 ∷ unescape_on (eqb (get_or s i 0) 255) (drop (i + 1) s)
-unescape-first s i false h t = at_drop_more (unescape_on false) s i 0 h
-unescape-first s i true h t =
+unescape_first s i false h t = at_drop_more (unescape_on false) s i 0 h
+unescape_first s i true h t =
     at_drop_more (unescape_on true) s i 0 h
     ∙ ap (λ u. cond u (unescape_on false (drop (i + 1) s)) (get_or s i 0 ∷ unescape_on false (drop (i + 1) s))) t
     ∙ ap (λ u. get_or s i 0 ∷ unescape_on u (drop (i + 1) s)) (sym t)

@@ -76,23 +76,23 @@ line_from_text code verb o wide n x e text =
     let z : n - 0 ≡ n = omega arith in
     ap (λ t. encoded (code.encode t)) (ap (λ m. take m wide) z ∙ text) ∙ sym (unless_ok (argument_refused o) (encoded (code.encode (text_of verb o))) x e)
 
-word-short : (verb : Verb) → length (word verb) ≤ 4
-word-short User = lit≤ tt
-word-short Pass = lit≤ tt
-word-short Cwd = lit≤ tt
-word-short Cdup = lit≤ tt
-word-short Dele = lit≤ tt
-word-short Rmd = lit≤ tt
-word-short Mkd = lit≤ tt
-word-short Rnfr = lit≤ tt
-word-short Rnto = lit≤ tt
-word-short SetType = lit≤ tt
-word-short Noop = lit≤ tt
-word-short Quit = lit≤ tt
+word_short : (verb : Verb) → length (word verb) ≤ 4
+word_short User = lit≤ tt
+word_short Pass = lit≤ tt
+word_short Cwd = lit≤ tt
+word_short Cdup = lit≤ tt
+word_short Dele = lit≤ tt
+word_short Rmd = lit≤ tt
+word_short Mkd = lit≤ tt
+word_short Rnfr = lit≤ tt
+word_short Rnto = lit≤ tt
+word_short SetType = lit≤ tt
+word_short Noop = lit≤ tt
+word_short Quit = lit≤ tt
 
-spaced-short : (o : Option (List ℕ)) (x : Unit {0}) → Ok x ≡ unless (argument_refused o) (Ok tt) → length (spaced o) ≤ 4097
-spaced-short None x e = lit≤ tt
-spaced-short (Some argument) x e = go (leb (length argument) 4096) refl e
+spaced_short : (o : Option (List ℕ)) (x : Unit {0}) → Ok x ≡ unless (argument_refused o) (Ok tt) → length (spaced o) ≤ 4097
+spaced_short None x e = lit≤ tt
+spaced_short (Some argument) x e = go (leb (length argument) 4096) refl e
   where
     go : (b : Bool) → leb (length argument) 4096 ≡ b
         → Ok x ≡ unless (cond b (cond (utf8 argument) (cond (one_line argument) None (Some ArgumentNotOneLine)) (Some ArgumentNotUtf8)) (Some ArgumentTooLong)) (Ok tt)
@@ -102,11 +102,11 @@ spaced-short (Some argument) x e = go (leb (length argument) 4096) refl e
 
 -- the text of a line whose argument passed is short
 pub text_short : (verb : Verb) (o : Option (List ℕ)) (x : Unit {0}) → Ok x ≡ unless (argument_refused o) (Ok tt) → length (text_of verb o) ≤ 4103
-text_short verb o x e = omega (arith, text_length verb o, word-short verb, spaced-short o x e)
+text_short verb o x e = omega (arith, text_length verb o, word_short verb, spaced_short o x e)
 
-pub escape-short : (line : List ℕ) → length (escape line) ≤ 2 * length line
-escape-short [] = lit≤ tt
-escape-short (b ∷ line) = go (eqb b 255) (escape-short line)
+pub escape_short : (line : List ℕ) → length (escape line) ≤ 2 * length line
+escape_short [] = lit≤ tt
+escape_short (b ∷ line) = go (eqb b 255) (escape_short line)
   where
     go : (t : Bool) → length (escape line) ≤ 2 * length line → length (cond t (255 ∷ 255 ∷ escape line) (b ∷ escape line)) ≤ 2 * length (b ∷ line)
     go true h = omega (arith, h)
@@ -114,7 +114,7 @@ escape-short (b ∷ line) = go (eqb b 255) (escape-short line)
 
 -- doubled, a line of at most 4,352 bytes has at most 8,704
 pub escape-fits : (bytes : List ℕ) (n : ℕ) → n ≤ 4352 → length (escape (take (n - 0) bytes)) ≤ 8704
-escape-fits bytes n h = omega (arith, escape-short (take (n - 0) bytes), length-take (n - 0) bytes)
+escape-fits bytes n h = omega (arith, escape_short (take (n - 0) bytes), length-take (n - 0) bytes)
 
 -- a line at the front of what it was encoded into
 pub line_seen : (narrow rest : List ℕ) (n : ℕ) → n ≤ length narrow → take (n - 0) (narrow ++ rest) ≡ take n narrow

@@ -9,7 +9,7 @@ use Rattle.command.specs.declared.refusal.Refusal.{Refusal}
 use Rattle.command.specs.declared.refusal.Refusal.TheVariants.{NoEncoding, LineNotEnded, LineNotOne}
 use Rattle.command.specs.declared.verb.Verb.{Verb}
 use Rattle.command.specs.declared.verb.Verb.TheVariants.{User, Pass, Cwd, Cdup, Dele, Rmd, Mkd, Rnfr, Rnto, «Type» as SetType, Noop, Quit}
-use Rattle.command.proofs.Makes.{escape-short}
+use Rattle.command.proofs.Makes.{escape_short}
 
 escape-append : (xs ys : List ℕ) → escape (xs ++ ys) ≡ escape xs ++ escape ys
 escape-append [] ys = refl
@@ -117,7 +117,7 @@ line_back code back verb argument l e =
 pub line_short : (code : Code) (verb : Verb) (argument : Option (List ℕ)) (l : List ℕ) → line_of code verb argument ≡ Ok l → length l ≤ 8704
 line_short code verb argument l e =
     let m = made code verb argument l e in
-    omega (arith, m.fits, escape-short m.line, ap length m.is)
+    omega (arith, m.fits, escape_short m.line, ap length m.is)
 
 pub verb_back : (verb : Verb) (argument : Option (List ℕ)) → verb_read (text_of verb argument) ≡ Some verb
 verb_back User None = refl

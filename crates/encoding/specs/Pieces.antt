@@ -19,15 +19,15 @@ pub lossy-nil : lossy [] ≡ []
 unfolding lossy_past
 lossy-nil = refl
 
-front-taken : (b : ℕ) (bs : List ℕ) → (front (b ∷ bs)).length ≡ suc ((front (b ∷ bs)).length - 1)
-front-taken b bs = let some : 0 < (front (b ∷ bs)).length = (by_table (b ∷ bs)).some (omega arith) in omega arith
+front_taken : (b : ℕ) (bs : List ℕ) → (front (b ∷ bs)).length ≡ suc ((front (b ∷ bs)).length - 1)
+front_taken b bs = let some : 0 < (front (b ∷ bs)).length = (by_table (b ∷ bs)).some (omega arith) in omega arith
 
 -- the first piece, and the text of what follows it
 pub lossy_step : (bs : List ℕ) → 0 < length bs → lossy bs ≡ shown bs ++ lossy (drop (front bs).length bs)
 unfolding lossy_past
 lossy_step [] h = absurd (not-suc-le-zero h)
 lossy_step (b ∷ bs) h =
-    ap (λ z. shown (b ∷ bs) ++ z) (past_is ((front (b ∷ bs)).length - 1) bs ∙ ap (λ k. lossy (drop k (b ∷ bs))) (sym (front-taken b bs)))
+    ap (λ z. shown (b ∷ bs) ++ z) (past_is ((front (b ∷ bs)).length - 1) bs ∙ ap (λ k. lossy (drop k (b ∷ bs))) (sym (front_taken b bs)))
 
 -- the same from a place on, where `rest` is the part from there
 pub lossy_at : (bytes text : List ℕ) (at n : ℕ) → at < length bytes
@@ -78,14 +78,14 @@ one_more bytes area before text put at end n s room h e l f p =
     let fits : length (put_mid end (end + length text - end) area put) ≡ length area = rw k (simp (length-append, length-take, length-drop) (omega arith)) in
     let front_is : take (end + length text) (put_mid end (end + length text - end) area put) ≡ take end area ++ text =
     take-put_mid end (end + length text - end) area put (end + length text) (omega arith) s.1 ∙ ap (λ z. take end area ++ z) p in
-    let rest-is : drop (end + length text) (put_mid end (end + length text - end) area put) ≡ drop (end + length text) area =
+    let rest_is : drop (end + length text) (put_mid end (end + length text - end) area put) ≡ drop (end + length text) area =
     drop-put_mid end (end + length text - end) area put (end + length text) (omega arith) s.1 (size ∙ sym k) in (
       within_at bytes at n h l,
       (let z : end + length text ≤ length (put_mid end (end + length text - end) area put) = omega (arith, fits) in z),
       fits ∙ s.2,
       ap (λ z. z ++ lossy (drop (at + n) bytes)) front_is ∙ append_assoc (take end area) text (lossy (drop (at + n) bytes))
           ∙ ap (λ z. take end area ++ z) (sym (lossy_at bytes text at n h e f)) ∙ s.3,
-      rest-is ∙ sym (drop-drop (length text) end area) ∙ ap (drop (length text)) s.4 ∙ drop-drop (length text) end before,
+      rest_is ∙ sym (drop-drop (length text) end area) ∙ ap (drop (length text)) s.4 ∙ drop-drop (length text) end before,
     )
 
 pub all_written : (bytes area before : List ℕ) (at end : ℕ) → SoFar bytes area before at end → length bytes ≤ at

@@ -5,7 +5,7 @@ use Rattle.command.specs.declared.refusal.Refusal.TheVariants.{ReplyTooLong, Rep
 use Rattle.reply.specs.declared.reply.Reply.{Reply}
 use Rattle.reply.specs.declared.reply.Rule.{Rule}
 use Rattle.reply.specs.Replies.{Unread, Cut, cut, lost, reply, count}
-use Rattle.reply.proofs.Replies.{Way, finished, ill, ended as cut_off, too_long as over-long, reply_took as bytes_of}
+use Rattle.reply.proofs.Replies.{Way, finished, ill, ended as cut_off, too_long as over_long, reply_took as bytes_of}
 
 -- why a reply is not finished; where the link has ended, nothing is left
 pub data Reason (ending : Ending) (u : Unread) (rest : List ℕ) : Type 0 where
@@ -24,13 +24,13 @@ module _ (limit : ℕ) (ending : Ending) where
   known_by took p (finished c e long some within) = let h : 0 < c.length = omega arith in subst (λ r. Known ending r p.rest) (sym e) h
   known_by took p (ill e some within) = subst (λ r. Known ending r p.rest) (sym e) (ill_begun refl)
   known_by took p (cut_off e none within) = subst (λ r. Known ending r p.rest) (sym e) (ended refl none)
-  known_by took p (over-long k e long is) = subst (λ r. Known ending r p.rest) (sym e) (too_long refl)
+  known_by took p (over_long k e long is) = subst (λ r. Known ending r p.rest) (sym e) (too_long refl)
 
   stored_by : (took : List ℕ) (p : Cut) → Way limit ending 0 took p → count p.got ≤ length took
   stored_by took p (finished c e long some within) = let i = ap count e in omega arith
   stored_by took p (ill e some within) = let i = ap count e in omega arith
   stored_by took p (cut_off e none within) = let i = ap count e in omega arith
-  stored_by took p (over-long k e long is) = let i = ap count e in omega arith
+  stored_by took p (over_long k e long is) = let i = ap count e in omega arith
 
   -- the bytes that a reply takes of those coming: alone they give the same, and nothing is left
   pub record Took (rule : Rule) (bs : List ℕ) : Type 0 where

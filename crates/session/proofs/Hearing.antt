@@ -20,8 +20,8 @@ laid_part xs area n short within =
     append_assoc xs (drop (length xs) (take n area)) (drop n area)
     ∙ ap (λ z. xs ++ z) (sym (drop-append-le (length xs) (take n area) (drop n area) (omega arith)) ∙ ap (drop (length xs)) (take-append-drop n area))
 
-front-short : (k : ℕ) (bs : List ℕ) (n : ℕ) → k ≤ n → length (take k bs) ≤ n
-front-short k bs n h = simp length-take (omega arith)
+front_short : (k : ℕ) (bs : List ℕ) (n : ℕ) → k ≤ n → length (take k bs) ≤ n
+front_short k bs n h = simp length-take (omega arith)
 
 module _ (v : Option Verb) (m : Model) (area : List ℕ) where
   -- by the reply that was cut off
@@ -33,7 +33,7 @@ module _ (v : Option Verb) (m : Model) (area : List ℕ) where
   told_err (Ok c) rest e = let z : ◌≡◌ {A = ℕ} 0 1 = cc in absurd (omega arith)
   told_err (Err u) rest e = refl
 
-  module _ (r : Result Reply Fault) (after tail : List ℕ) (w : Wire) (within : limit_of m ≤ length area) (same-tail : tail ≡ drop (limit_of m) area) (is : record { answer = r; area = after; link = w } ≡ heard v (reply Usual (length (take (limit_of m - 0) area)) m.wire.ending m.wire.coming) (take (limit_of m - 0) area) m.wire) where
+  module _ (r : Result Reply Fault) (after tail : List ℕ) (w : Wire) (within : limit_of m ≤ length area) (same_tail : tail ≡ drop (limit_of m) area) (is : record { answer = r; area = after; link = w } ≡ heard v (reply Usual (length (take (limit_of m - 0) area)) m.wire.ending m.wire.coming) (take (limit_of m - 0) area) m.wire) where
     part : take (limit_of m - 0) area ≡ take (limit_of m) area
     part = let e : limit_of m - 0 ≡ limit_of m = omega arith in ap (λ z. take z area) e
 
@@ -54,8 +54,8 @@ module _ (v : Option Verb) (m : Model) (area : List ℕ) where
 
     fills : after ++ tail ≡ laid (take (count (cut_of m).got) m.wire.coming) area
     fills =
-        ap (λ z. z ++ tail) (ap (λ h. h.area) is_cut) ∙ ap (λ z. laid (take (count (cut_of m).got) m.wire.coming) (take (limit_of m) area) ++ z) same-tail
-        ∙ laid_part (take (count (cut_of m).got) m.wire.coming) area (limit_of m) (front-short (count (cut_of m).got) m.wire.coming (limit_of m) (reply_within (limit_of m) m.wire.ending Usual m.wire.coming)) within
+        ap (λ z. z ++ tail) (ap (λ h. h.area) is_cut) ∙ ap (λ z. laid (take (count (cut_of m).got) m.wire.coming) (take (limit_of m) area) ++ z) same_tail
+        ∙ laid_part (take (count (cut_of m).got) m.wire.coming) area (limit_of m) (front_short (count (cut_of m).got) m.wire.coming (limit_of m) (reply_within (limit_of m) m.wire.ending Usual m.wire.coming)) within
 
     pub hears_ok : is_err r ≡ false → ends r (with_wire w m) (after ++ tail) ≡ hear_of v m area
     unfolding hear_of

@@ -102,8 +102,8 @@ none_accepted (TransferType k) n h = ap (λ b. cond b [] (say SetType (type_text
 none_accepted (Resume k) n h = refl
 
 -- so the call comes to nothing
-refused-first : (c : Code) (ask : Ask) (m : Model) (t : Tally) (d : Desk) → Tied c m t → (n : Refusal) → First n → Moved c ask m t (record { answer = Refused (refusal n); after = m; desk = d })
-refused-first c ask m t d tied n h = moved_none c ask m t (Refused (refusal n)) m d (unmarked ask n h) refl tied (record {
+refused_first : (c : Code) (ask : Ask) (m : Model) (t : Tally) (d : Desk) → Tied c m t → (n : Refusal) → First n → Moved c ask m t (record { answer = Refused (refusal n); after = m; desk = d })
+refused_first c ask m t d tied n h = moved_none c ask m t (Refused (refusal n)) m d (unmarked ask n h) refl tied (record {
   accepts = none_accepted ask n (first_early n h);
   newest = subst (λ r. Newest t t (Own ask t t) r d.reply) (sym (read_early n (first_early n h) None none_read)) refl;
 })
@@ -118,8 +118,8 @@ pub moved-past : (c : Code) (ask : Ask) (greeted : Bool) (m : Model) (t : Tally)
 moved-past c ask greeted m t d o tied go = by (long_enough m d) m.kept.in_step refl (greeted_as greeted m.kept.greeted) m.kept.transfer_open
   where
     by : (long step : Bool) → m.kept.in_step ≡ step → (due shut : Bool) → Moved c ask m t (in_words (past (cond long (cond step (cond due (cond shut (Err (refusal TransferOpen)) (Ok tt)) (Err (refusal GreetingDue))) (Err (refusal OutOfStep))) (Err (refusal AreaTooShort))) m d o))
-    by false step e due shut = refused-first c ask m t d tied AreaTooShort refl
-    by true false e due shut = refused-first c ask m t d tied OutOfStep refl
-    by true true e false shut = refused-first c ask m t d tied GreetingDue refl
-    by true true e true true = refused-first c ask m t d tied TransferOpen refl
+    by false step e due shut = refused_first c ask m t d tied AreaTooShort refl
+    by true false e due shut = refused_first c ask m t d tied OutOfStep refl
+    by true true e false shut = refused_first c ask m t d tied GreetingDue refl
+    by true true e true true = refused_first c ask m t d tied TransferOpen refl
     by true true e true false = go (in_step t.broken (sym e ∙ tied.step))

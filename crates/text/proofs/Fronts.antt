@@ -184,5 +184,5 @@ pub front_some : (bs : List ℕ) (n w : ℕ) → 0 < length bs → n ≡ 1 + run
 unfolding front
 front_some [] n w h e f = absurd (not-suc-le-zero h)
 front_some (b ∷ bs) n w h e f =
-    let n-is : n ≡ suc (run (drop 1 (row_of b)) bs) = e ∙ one-add _ in
-    rw (n-is, f)
+    let n_is : n ≡ suc (run (drop 1 (row_of b)) bs) = e ∙ one-add _ in
+    rw (n_is, f)

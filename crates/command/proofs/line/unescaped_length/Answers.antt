@@ -1,6 +1,6 @@
 use Rattle.std.proofs.Common.{◌≡◌, ◌+◌, Bool, false, ◌&&◌, eqb, length, get_or, drop, ap, arith, rules}
 use Rattle.command.specs.Lines.{unescape_on}
-use Rattle.command.proofs.Escapes.{unescape_second, unescape-first, unescape_end}
+use Rattle.command.proofs.Escapes.{unescape_second, unescape_first, unescape_end}
 use Rattle.command.proofs.line.unescaped_length.Goals as goal
 use Rattle.command.proofs.line.unescaped_length.Goals.{then-second+then-byte, else-second, else-second-via-then-second+else-byte, else-second-via-else-second}
 
@@ -17,7 +17,7 @@ loop-byte-preserved c =
       | else-second w ↦
           let f : (c.loop-byte.second && eqb (get_or s i 0) 255) ≡ false =
           elim w.else-second.branch [ else-second-via-then-second+else-byte v ↦ search rules | else-second-via-else-second v ↦ search rules ] in
-          let e = ap length (unescape-first s i c.loop-byte.second c.loop-byte-test.true f) in
+          let e = ap length (unescape_first s i c.loop-byte.second c.loop-byte-test.true f) in
           let t = ap rest w.second-is in
           (omega (arith, w.length-is), omega (arith, w.length-is, e, t))
     ]

@@ -1,14 +1,14 @@
 use Rattle.std.proofs.Common.{arith, length-set}
-use Rattle.command.proofs.Escapes.{escape_iac, escape_plain, escape_end, escape-next}
+use Rattle.command.proofs.Escapes.{escape_iac, escape_plain, escape_end, escape_next}
 use Rattle.command.proofs.Pushes.{room, push_one, push_two, front_all}
 use Rattle.command.proofs.line.write_escaped.Goals as goal
 use Rattle.command.proofs.line.write_escaped.Goals.{then-byte, else-byte}
 
 pub bounds-area-end : goal.bounds-area-end
-bounds-area-end c = omega (arith, room _ _ _ _ _ _ c.requires c.loop-byte.invariant (escape-next _ _ c.loop-byte-test.true).1)
+bounds-area-end c = omega (arith, room _ _ _ _ _ _ c.requires c.loop-byte.invariant (escape_next _ _ c.loop-byte-test.true).1)
 
 pub overflow_add-end : goal.overflow_add-end
-overflow_add-end c = omega (arith, room _ _ _ _ _ _ c.requires c.loop-byte.invariant (escape-next _ _ c.loop-byte-test.true).1)
+overflow_add-end c = omega (arith, room _ _ _ _ _ _ c.requires c.loop-byte.invariant (escape_next _ _ c.loop-byte-test.true).1)
 
 pub bounds-area-end-then-byte : goal.bounds-area-end-then-byte
 bounds-area-end-then-byte c =
