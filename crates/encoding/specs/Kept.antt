@@ -1,6 +1,7 @@
--- What is decoded is UTF-8, and UTF-8 is decoded to itself. Assumes nothing.
+-- What is decoded is UTF-8, and UTF-8 is decoded to itself: the proof of the law that an encoding owes, which Rattle wants
+-- beside the definitions. Assumes nothing.
 use Rattle.std.specs.Prelude.{◌≡◌, ℕ, zero, suc, ◌-◌, ◌<◌, ◌≤◌, Bool, true, false, cond, List, [], ◌∷◌, ◌++◌, length, take, drop, Some, None, IsUtf8, refl}
-use Rattle.std.proofs.Common.{sym, ap, subst, ◌∙◌, arith}
+use Rattle.std.proofs.Common.{sym, ap, subst, ◌∙◌, not-suc-le-zero, arith}
 use Rattle.std.specs.List.{concat}
 use Rattle.std.proofs.lemmas.List.{length-append, take_at, drop_at}
 use Rattle.std.proofs.lemmas.Bool.{and_parts, false≢true}
@@ -14,7 +15,26 @@ use Rattle.text.proofs.Valid.{utf8_is, utf8_by_table}
 use Rattle.encoding.specs.Code.{Back}
 use Rattle.encoding.specs.Lossy.{replacement, shown, lossy_past, lossy, LossyIsText}
 use Rattle.encoding.specs.Utf8Code.{utf8_code}
-use Rattle.encoding.specs.Pieces.{lossy-nil, lossy_step}
+
+past_is : (k : ℕ) (bs : List ℕ) → lossy_past k bs ≡ lossy (drop k bs)
+unfolding lossy_past
+past_is zero bs = refl
+past_is (suc k) [] = refl
+past_is (suc k) (b ∷ bs) = past_is k bs
+
+pub lossy-nil : lossy [] ≡ []
+unfolding lossy_past
+lossy-nil = refl
+
+front_taken : (b : ℕ) (bs : List ℕ) → (front (b ∷ bs)).length ≡ suc ((front (b ∷ bs)).length - 1)
+front_taken b bs = let some : 0 < (front (b ∷ bs)).length = (by_table (b ∷ bs)).some (omega arith) in omega arith
+
+-- the first piece, and the text of what follows it
+pub lossy_step : (bs : List ℕ) → 0 < length bs → lossy bs ≡ shown bs ++ lossy (drop (front bs).length bs)
+unfolding lossy_past
+lossy_step [] h = absurd (not-suc-le-zero h)
+lossy_step (b ∷ bs) h =
+    ap (λ z. shown (b ∷ bs) ++ z) (past_is ((front (b ∷ bs)).length - 1) bs ∙ ap (λ k. lossy (drop k (b ∷ bs))) (sym (front_taken b bs)))
 
 replacement_sequence : is_sequence replacement ≡ true
 unfolding is_sequence fits

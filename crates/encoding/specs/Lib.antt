@@ -2,4 +2,3 @@ pub mod Code
 pub mod Lossy
 pub mod Utf8Code
 pub mod Kept
-pub mod Pieces

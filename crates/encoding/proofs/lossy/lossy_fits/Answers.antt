@@ -1,7 +1,7 @@
 use Rattle.std.proofs.Common.{◌<◌, ◌≤◌, length, sym, arith}
 use Rattle.std.proofs.lemmas.Bool.{le-leb, lt-leb}
 use Rattle.encoding.specs.Lossy.{lossy}
-use Rattle.encoding.specs.Pieces.{length_at, within_at, length_end}
+use Rattle.encoding.proofs.Pieces.{length_at, within_at, length_end}
 use Rattle.encoding.proofs.lossy.lossy_fits.Goals as goal
 
 pub returns-then-left-piece : goal.returns-then-left-piece

@@ -1,4 +1,4 @@
-use Rattle.encoding.specs.Pieces.{room_at, one_more, all_written}
+use Rattle.encoding.proofs.Pieces.{room_at, one_more, all_written}
 use Rattle.encoding.proofs.lossy.write_lossy.Goals as goal
 
 pub slice_bounds-copy_from_slice-end : goal.slice_bounds-copy_from_slice-end

@@ -1,5 +1,5 @@
 use Rattle.std.proofs.Common.{◌-◌, length}
-use Rattle.encoding.specs.Pieces.{SoFar}
+use Rattle.encoding.proofs.Pieces.{SoFar}
 use Rattle.encoding.proofs.lossy.write_lossy.Given as goal
 
 abbrev pub invariant-loop-at : goal.invariant-loop-at

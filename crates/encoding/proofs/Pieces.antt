@@ -1,33 +1,13 @@
 -- The text of some bytes, one piece after another. Assumes nothing.
-use Rattle.std.specs.Prelude.{◌≡◌, ℕ, zero, suc, ◌+◌, ◌-◌, ◌<◌, ◌≤◌, List, [], ◌∷◌, ◌++◌, length, take, drop, refl}
-use Rattle.std.proofs.Common.{sym, ap, ◌∙◌, append_assoc, not-suc-le-zero, arith}
+use Rattle.std.specs.Prelude.{◌≡◌, ℕ, ◌+◌, ◌-◌, ◌<◌, ◌≤◌, List, ◌++◌, length, take, drop}
+use Rattle.std.proofs.Common.{sym, ap, ◌∙◌, append_assoc, arith}
 use borrow.Rule.Slice.PartMut.{put_mid}
 use Rattle.std.proofs.lemmas.List.{append-nil, length-append, length-take, length-take-le, length-drop, drop_all, drop-drop, take_rest, take-append-drop}
 use Rattle.std.proofs.lemmas.Slice.{take-put_mid, drop-put_mid}
 use Rattle.text.specs.Area.{laid}
 use Rattle.text.specs.Front.{front}
-use Rattle.text.proofs.Fronts.{by_table}
-use Rattle.encoding.specs.Lossy.{shown, lossy_past, lossy}
-
-past_is : (k : ℕ) (bs : List ℕ) → lossy_past k bs ≡ lossy (drop k bs)
-unfolding lossy_past
-past_is zero bs = refl
-past_is (suc k) [] = refl
-past_is (suc k) (b ∷ bs) = past_is k bs
-
-pub lossy-nil : lossy [] ≡ []
-unfolding lossy_past
-lossy-nil = refl
-
-front_taken : (b : ℕ) (bs : List ℕ) → (front (b ∷ bs)).length ≡ suc ((front (b ∷ bs)).length - 1)
-front_taken b bs = let some : 0 < (front (b ∷ bs)).length = (by_table (b ∷ bs)).some (omega arith) in omega arith
-
--- the first piece, and the text of what follows it
-pub lossy_step : (bs : List ℕ) → 0 < length bs → lossy bs ≡ shown bs ++ lossy (drop (front bs).length bs)
-unfolding lossy_past
-lossy_step [] h = absurd (not-suc-le-zero h)
-lossy_step (b ∷ bs) h =
-    ap (λ z. shown (b ∷ bs) ++ z) (past_is ((front (b ∷ bs)).length - 1) bs ∙ ap (λ k. lossy (drop k (b ∷ bs))) (sym (front_taken b bs)))
+use Rattle.encoding.specs.Lossy.{shown, lossy}
+use Rattle.encoding.specs.Kept.{lossy-nil, lossy_step}
 
 -- the same from a place on, where `rest` is the part from there
 pub lossy_at : (bytes text : List ℕ) (at n : ℕ) → at < length bytes
