@@ -1,3 +1,4 @@
 pub mod Hearing
 pub mod Sending
+pub mod Lending
 pub mod Exchanges

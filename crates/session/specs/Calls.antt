@@ -1,5 +1,6 @@
 -- What each call answers and leaves. Assumes nothing.
 use Rattle.std.specs.Prelude.{ℕ, Bool, true, false, cond, ◌&&◌, List, [], ◌∷◌, length, take, Some, None, Ok, Err, Option, Result, ◌==◌, nat_le}
+use Rattle.std.specs.Borrow.{Bor}
 use Rattle.text.specs.Area.{laid}
 use Rattle.link.specs.Wire.{fits, put_of, leaving}
 use Rattle.command.specs.Lines.{line_of}
@@ -111,7 +112,7 @@ abbrev pub renaming : List ℕ → List ℕ → Model → List ℕ → Outcome (
 renaming from to m area = next (exchange_of Rnfr (Some from) (RequestFilePending ∷ []) none_read m area) (exchange_of Rnto (Some to) (RequestedFileActionOk ∷ CommandOk ∷ []))
 
 -- the lines that one reply settles
-abbrev pub verb_of : Plain → Verb
+abbrev pub verb_of : {T : Type 0} → Plain T → Verb
 verb_of (DoCwd path) = Cwd
 verb_of DoCdup = Cdup
 verb_of (DoDele path) = Dele
@@ -120,7 +121,7 @@ verb_of (DoMkd path) = Mkd
 verb_of DoNoop = Noop
 verb_of DoQuit = Quit
 
-abbrev pub argument_of : Plain → Option (List ℕ)
+abbrev pub argument_of : Plain (Bor (List ℕ)) → Option (List ℕ)
 argument_of (DoCwd path) = Some path.now
 argument_of DoCdup = None
 argument_of (DoDele path) = Some path.now
@@ -129,7 +130,7 @@ argument_of (DoMkd path) = Some path.now
 argument_of DoNoop = None
 argument_of DoQuit = None
 
-abbrev pub statuses_of : Plain → List Status
+abbrev pub statuses_of : {T : Type 0} → Plain T → List Status
 statuses_of (DoCwd path) = RequestedFileActionOk ∷ []
 statuses_of DoCdup = CommandOk ∷ RequestedFileActionOk ∷ []
 statuses_of (DoDele path) = RequestedFileActionOk ∷ []
@@ -145,7 +146,7 @@ greet_of m d = past (questions_of false m d) m d (greeting_of m d.reply)
 abbrev pub login_of : List ℕ → List ℕ → Model → Desk → Called (Result Reply Fault)
 login_of user password m d = past (questions_of true m d) m d (logging_in user password m d.reply)
 
-abbrev pub plain_of : Plain → Model → Desk → Called (Result Reply Fault)
+abbrev pub plain_of : Plain (Bor (List ℕ)) → Model → Desk → Called (Result Reply Fault)
 plain_of p m d = past (questions_of true m d) m d (exchange_of (verb_of p) (argument_of p) (statuses_of p) none_read m d.reply)
 
 abbrev pub rename_of : List ℕ → List ℕ → Model → Desk → Called (Result Reply Fault)

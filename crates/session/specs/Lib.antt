@@ -1,3 +1,5 @@
+pub mod Limits
 pub mod Model
+pub mod Areas
 pub mod Outcome
 pub mod Calls

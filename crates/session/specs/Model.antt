@@ -1,9 +1,10 @@
 -- What a session holds, whatever its link, carrier and encoding are made of; and what the areas hold that a call is lent.
 -- Assumes nothing.
-use Rattle.std.specs.Prelude.{ℕ, min, max, Bool, true, false, List, None, Option}
+use Rattle.std.specs.Prelude.{ℕ, Bool, true, false, List, None, Option}
 use Rattle.link.specs.Wire.{Wire}
 use Rattle.carrier.specs.Deck.{Deck, close_of}
 use Rattle.encoding.specs.Code.{Code}
+use Rattle.session.specs.Limits.{clamped}
 use Rattle.session.specs.declared.settings.Settings.{Settings}
 use Rattle.session.specs.declared.session.Record.{Record}
 use Rattle.session.specs.declared.session.Session.{Session}
@@ -24,13 +25,9 @@ pub record Desk : Type 0 where
   pub wide : List ℕ
   pub narrow : List ℕ
 
--- a limit outside 512 to 262,144 becomes the nearer end
-abbrev pub clamped : ℕ → ℕ
-clamped n = max 512 (min 262144 n)
-
 -- the settings of a session that is made with st
 abbrev pub settled : Settings → Settings
-settled st = record { mode = st.mode; nat_workaround = st.nat_workaround; peer = st.peer; peer_rule = st.peer_rule; limit = clamped st.limit }
+settled st = record st { limit = clamped st.limit }
 
 -- a new session: nothing read, in step, no transfer open; the carrier is closed
 abbrev pub fresh : Settings → Wire → Deck → Code → Model
@@ -47,28 +44,18 @@ desk reply wide narrow = record { reply = reply; wide = wide; narrow = narrow }
 abbrev pub limit_of : Model → ℕ
 limit_of m = m.kept.settings.limit
 
--- the record with one mark changed
-abbrev pub mark_step : Bool → Record → Record
-mark_step b k = record { settings = k.settings; greeted = k.greeted; in_step = b; transfer_open = k.transfer_open; restart = k.restart; completed = k.completed }
-
-abbrev pub mark_greeted : Bool → Record → Record
-mark_greeted b k = record { settings = k.settings; greeted = b; in_step = k.in_step; transfer_open = k.transfer_open; restart = k.restart; completed = k.completed }
-
-abbrev pub mark_restart : Option ℕ → Record → Record
-mark_restart o k = record { settings = k.settings; greeted = k.greeted; in_step = k.in_step; transfer_open = k.transfer_open; restart = o; completed = k.completed }
-
--- the model with one part changed
+-- the model with one part changed, or one mark of its record
 abbrev pub with_wire : Wire → Model → Model
-with_wire w m = record { wire = w; deck = m.deck; code = m.code; kept = m.kept }
+with_wire w m = record m { wire = w }
 
 abbrev pub with_kept : Record → Model → Model
-with_kept k m = record { wire = m.wire; deck = m.deck; code = m.code; kept = k }
+with_kept k m = record m { kept = k }
 
 abbrev pub with_step : Bool → Model → Model
-with_step b m = with_kept (mark_step b m.kept) m
+with_step b m = with_kept (record m.kept { in_step = b }) m
 
 abbrev pub with_greeted : Bool → Model → Model
-with_greeted b m = with_kept (mark_greeted b m.kept) m
+with_greeted b m = with_kept (record m.kept { greeted = b }) m
 
 abbrev pub with_restart : Option ℕ → Model → Model
-with_restart o m = with_kept (mark_restart o m.kept) m
+with_restart o m = with_kept (record m.kept { restart = o }) m

@@ -1,9 +1,11 @@
 // The calls.
-ghost use Rattle.std.specs.Prelude.{◌≡◌, ◌≤◌, length};
-ghost use Rattle.session.specs.Model.{model, desk};
+ghost use Rattle.std.specs.Prelude.{◌≡◌};
+ghost use Rattle.session.specs.Model.{model};
+ghost use Rattle.session.specs.Areas.{desk_of, SameAreas, Serve};
 ghost use Rattle.session.specs.Calls.{greeting_of, logging_in, renaming, greet_of, login_of, plain_of, rename_of, type_of, resume_of};
 
-use crate::control::{expect, nothing_read, wipe, with_argument};
+use crate::areas::Areas;
+use crate::control::{expect, nothing_read, with_argument};
 use crate::plain::Plain;
 use crate::session::Session;
 use carrier::Carrier;
@@ -13,29 +15,25 @@ use link::Link;
 use reply::{Reply, Status};
 
 impl<L: Link, C: Carrier, E: Encoding> Session<L, C, E> {
-    fn read_greeting(&mut self, reply: &mut [u8]) -> Result<Reply, Fault>
-        requires { self.old.kept.settings.limit ≤ length reply.old }
-        ensures { record { answer = result; after = model L.Link.means C.Carrier.means E.Encoding.means self.new; reply = reply.new } ≡ greeting_of (model L.Link.means C.Carrier.means E.Encoding.means self.old) reply.old }
+    fn read_greeting(&mut self, areas: &mut Areas<'_>) -> Result<Reply, Fault>
+        requires { Serve self.old.kept.settings.limit areas.old }
+        ensures came { record { answer = result; after = model L.Link.means C.Carrier.means E.Encoding.means self.new; reply = areas.new.reply.now } ≡ greeting_of (model L.Link.means C.Carrier.means E.Encoding.means self.old) areas.old.reply.now }
+        ensures same { SameAreas areas.old areas.new }
     {
-        let answer = self.hear(None, reply)?;
+        let answer = self.hear(None, areas)?;
         let answer = expect(&[Status::Ready], None, answer)?;
         self.kept.greeted = true;
         Ok(answer)
     }
 
     // Reads the server's greeting. Another status than 220 is refused, and greet may then be made again.
-    pub fn greet(
-        &mut self,
-        reply: &mut [u8],
-        wide: &mut [u8],
-        narrow: &mut [u8],
-    ) -> Result<Reply, Fault>
-        ensures { record { answer = result; after = model L.Link.means C.Carrier.means E.Encoding.means self.new; desk = desk reply.new wide.new narrow.new } ≡ greet_of (model L.Link.means C.Carrier.means E.Encoding.means self.old) (desk reply.old wide.old narrow.old) }
+    pub fn greet(&mut self, areas: &mut Areas<'_>) -> Result<Reply, Fault>
+        ensures came { record { answer = result; after = model L.Link.means C.Carrier.means E.Encoding.means self.new; desk = desk_of areas.new } ≡ greet_of (model L.Link.means C.Carrier.means E.Encoding.means self.old) (desk_of areas.old) }
+        ensures same { SameAreas areas.old areas.new }
     {
-        self.questions(false, reply, wide, narrow)?;
-        let answer = self.read_greeting(reply);
-        wipe(wide);
-        wipe(narrow);
+        self.questions(false, areas)?;
+        let answer = self.read_greeting(areas);
+        areas.wipe();
         answer
     }
 
@@ -44,27 +42,24 @@ impl<L: Link, C: Carrier, E: Encoding> Session<L, C, E> {
         &mut self,
         user: &[u8],
         password: &[u8],
-        reply: &mut [u8],
-        wide: &mut [u8],
-        narrow: &mut [u8],
+        areas: &mut Areas<'_>,
     ) -> Result<Reply, Fault>
-        requires { (self.old.kept.settings.limit ≤ length reply.old) × ((8704 ≤ length wide.old) × (4352 ≤ length narrow.old)) }
-        ensures { record { answer = result; after = model L.Link.means C.Carrier.means E.Encoding.means self.new; reply = reply.new } ≡ logging_in user.now password.now (model L.Link.means C.Carrier.means E.Encoding.means self.old) reply.old }
+        requires { Serve self.old.kept.settings.limit areas.old }
+        ensures came { record { answer = result; after = model L.Link.means C.Carrier.means E.Encoding.means self.new; reply = areas.new.reply.now } ≡ logging_in user.now password.now (model L.Link.means C.Carrier.means E.Encoding.means self.old) areas.old.reply.now }
+        ensures same { SameAreas areas.old areas.new }
     {
         let name = with_argument(Verb::User, user);
         let answer = self.exchange(
             name,
             &[Status::LoggedIn, Status::NeedPassword],
             nothing_read(),
-            reply,
-            wide,
-            narrow,
+            areas,
         )?;
         if answer.code != Status::NeedPassword.code() {
             return Ok(answer);
         }
         let secret = with_argument(Verb::Pass, password);
-        self.exchange(secret, &[Status::LoggedIn], answer, reply, wide, narrow)
+        self.exchange(secret, &[Status::LoggedIn], answer, areas)
     }
 
     // Logs in. The password is sent only if the server asks for one.
@@ -72,89 +67,52 @@ impl<L: Link, C: Carrier, E: Encoding> Session<L, C, E> {
         &mut self,
         user: &[u8],
         password: &[u8],
-        reply: &mut [u8],
-        wide: &mut [u8],
-        narrow: &mut [u8],
+        areas: &mut Areas<'_>,
     ) -> Result<Reply, Fault>
-        ensures { record { answer = result; after = model L.Link.means C.Carrier.means E.Encoding.means self.new; desk = desk reply.new wide.new narrow.new } ≡ login_of user.now password.now (model L.Link.means C.Carrier.means E.Encoding.means self.old) (desk reply.old wide.old narrow.old) }
+        ensures came { record { answer = result; after = model L.Link.means C.Carrier.means E.Encoding.means self.new; desk = desk_of areas.new } ≡ login_of user.now password.now (model L.Link.means C.Carrier.means E.Encoding.means self.old) (desk_of areas.old) }
+        ensures same { SameAreas areas.old areas.new }
     {
-        self.questions(true, reply, wide, narrow)?;
-        let answer = self.log_in(user, password, reply, wide, narrow);
-        wipe(wide);
-        wipe(narrow);
+        self.questions(true, areas)?;
+        let answer = self.log_in(user, password, areas);
+        areas.wipe();
         answer
     }
 
     // A command of one line and one reply.
-    pub fn plain(
-        &mut self,
-        plain: Plain<'_>,
-        reply: &mut [u8],
-        wide: &mut [u8],
-        narrow: &mut [u8],
-    ) -> Result<Reply, Fault>
-        ensures { record { answer = result; after = model L.Link.means C.Carrier.means E.Encoding.means self.new; desk = desk reply.new wide.new narrow.new } ≡ plain_of plain.entry (model L.Link.means C.Carrier.means E.Encoding.means self.old) (desk reply.old wide.old narrow.old) }
+    pub fn plain(&mut self, plain: Plain<&[u8]>, areas: &mut Areas<'_>) -> Result<Reply, Fault>
+        ensures came { record { answer = result; after = model L.Link.means C.Carrier.means E.Encoding.means self.new; desk = desk_of areas.new } ≡ plain_of plain.entry (model L.Link.means C.Carrier.means E.Encoding.means self.old) (desk_of areas.old) }
+        ensures same { SameAreas areas.old areas.new }
     {
-        self.questions(true, reply, wide, narrow)?;
-        let answer = self.exchange(
-            plain.command(),
-            plain.expected(),
-            nothing_read(),
-            reply,
-            wide,
-            narrow,
-        );
-        wipe(wide);
-        wipe(narrow);
+        self.questions(true, areas)?;
+        let answer = self.exchange(plain.command(), plain.expected(), nothing_read(), areas);
+        areas.wipe();
         answer
     }
 
     // RNFR, and once the server has the file, RNTO.
-    fn move_file(
-        &mut self,
-        from: &[u8],
-        to: &[u8],
-        reply: &mut [u8],
-        wide: &mut [u8],
-        narrow: &mut [u8],
-    ) -> Result<Reply, Fault>
-        requires { (self.old.kept.settings.limit ≤ length reply.old) × ((8704 ≤ length wide.old) × (4352 ≤ length narrow.old)) }
-        ensures { record { answer = result; after = model L.Link.means C.Carrier.means E.Encoding.means self.new; reply = reply.new } ≡ renaming from.now to.now (model L.Link.means C.Carrier.means E.Encoding.means self.old) reply.old }
+    fn move_file(&mut self, from: &[u8], to: &[u8], areas: &mut Areas<'_>) -> Result<Reply, Fault>
+        requires { Serve self.old.kept.settings.limit areas.old }
+        ensures came { record { answer = result; after = model L.Link.means C.Carrier.means E.Encoding.means self.new; reply = areas.new.reply.now } ≡ renaming from.now to.now (model L.Link.means C.Carrier.means E.Encoding.means self.old) areas.old.reply.now }
+        ensures same { SameAreas areas.old areas.new }
     {
         let old = with_argument(Verb::Rnfr, from);
-        let answer = self.exchange(
-            old,
-            &[Status::RequestFilePending],
-            nothing_read(),
-            reply,
-            wide,
-            narrow,
-        )?;
+        let answer = self.exchange(old, &[Status::RequestFilePending], nothing_read(), areas)?;
         let new = with_argument(Verb::Rnto, to);
         self.exchange(
             new,
             &[Status::RequestedFileActionOk, Status::CommandOk],
             answer,
-            reply,
-            wide,
-            narrow,
+            areas,
         )
     }
 
-    pub fn rename(
-        &mut self,
-        from: &[u8],
-        to: &[u8],
-        reply: &mut [u8],
-        wide: &mut [u8],
-        narrow: &mut [u8],
-    ) -> Result<Reply, Fault>
-        ensures { record { answer = result; after = model L.Link.means C.Carrier.means E.Encoding.means self.new; desk = desk reply.new wide.new narrow.new } ≡ rename_of from.now to.now (model L.Link.means C.Carrier.means E.Encoding.means self.old) (desk reply.old wide.old narrow.old) }
+    pub fn rename(&mut self, from: &[u8], to: &[u8], areas: &mut Areas<'_>) -> Result<Reply, Fault>
+        ensures came { record { answer = result; after = model L.Link.means C.Carrier.means E.Encoding.means self.new; desk = desk_of areas.new } ≡ rename_of from.now to.now (model L.Link.means C.Carrier.means E.Encoding.means self.old) (desk_of areas.old) }
+        ensures same { SameAreas areas.old areas.new }
     {
-        self.questions(true, reply, wide, narrow)?;
-        let answer = self.move_file(from, to, reply, wide, narrow);
-        wipe(wide);
-        wipe(narrow);
+        self.questions(true, areas)?;
+        let answer = self.move_file(from, to, areas);
+        areas.wipe();
         answer
     }
 
@@ -162,25 +120,16 @@ impl<L: Link, C: Carrier, E: Encoding> Session<L, C, E> {
     pub fn transfer_type(
         &mut self,
         file_type: FileType,
-        reply: &mut [u8],
-        wide: &mut [u8],
-        narrow: &mut [u8],
+        areas: &mut Areas<'_>,
     ) -> Result<Reply, Fault>
-        ensures { record { answer = result; after = model L.Link.means C.Carrier.means E.Encoding.means self.new; desk = desk reply.new wide.new narrow.new } ≡ type_of file_type (model L.Link.means C.Carrier.means E.Encoding.means self.old) (desk reply.old wide.old narrow.old) }
+        ensures came { record { answer = result; after = model L.Link.means C.Carrier.means E.Encoding.means self.new; desk = desk_of areas.new } ≡ type_of file_type (model L.Link.means C.Carrier.means E.Encoding.means self.old) (desk_of areas.old) }
+        ensures same { SameAreas areas.old areas.new }
     {
-        self.questions(true, reply, wide, narrow)?;
+        self.questions(true, areas)?;
         let (text, length) = file_type.text();
         let command = with_argument(Verb::Type, &text[0..length]);
-        let answer = self.exchange(
-            command,
-            &[Status::CommandOk],
-            nothing_read(),
-            reply,
-            wide,
-            narrow,
-        );
-        wipe(wide);
-        wipe(narrow);
+        let answer = self.exchange(command, &[Status::CommandOk], nothing_read(), areas);
+        areas.wipe();
         answer
     }
 

@@ -1,10 +1,11 @@
 // The pieces that calls are made of: the first questions, a line, a reply, and a line with its reply.
-ghost use Rattle.std.specs.Prelude.{◌≡◌, ℕ, ◌≤◌, List, length, Some};
+ghost use Rattle.std.specs.Prelude.{◌≡◌, Some};
 ghost use Rattle.std.specs.Option.{option_map};
-ghost use Rattle.session.specs.Model.{model, limit_of, desk};
-ghost use Rattle.session.specs.Outcome.{zeros};
+ghost use Rattle.session.specs.Model.{model};
+ghost use Rattle.session.specs.Areas.{desk_of, SameAreas, Serve};
 ghost use Rattle.session.specs.Calls.{none_read, fault, refusal, questions_of, perform_of, hear_of, expected_of, settled_by, exchange_of};
 
+use crate::areas::Areas;
 use crate::session::Session;
 use carrier::Carrier;
 use command::{Command, Fault, Refusal, Verb, encode_line};
@@ -63,28 +64,15 @@ pub(crate) fn with_argument(verb: Verb, argument: &[u8]) -> Command<'_>
     }
 }
 
-// A work area may have held a password, so each call that used one leaves it all zero.
-pub(crate) fn wipe(area: &mut [u8])
-    ensures { area.new ≡ zeros area.old }
-{
-    area.fill(0);
-}
-
 impl<L: Link, C: Carrier, E: Encoding> Session<L, C, E> {
     // The questions that come before anything is sent or read. `greeted` is what the call wants: greet is made before
     // the greeting, every other call after it.
-    pub(crate) fn questions(
-        &self,
-        greeted: bool,
-        reply: &[u8],
-        wide: &[u8],
-        narrow: &[u8],
-    ) -> Result<(), Fault>
-        ensures { result ≡ questions_of greeted (model L.Link.means C.Carrier.means E.Encoding.means self.now) (desk reply.now wide.now narrow.now) }
+    pub(crate) fn questions(&self, greeted: bool, areas: &Areas<'_>) -> Result<(), Fault>
+        ensures { result ≡ questions_of greeted (model L.Link.means C.Carrier.means E.Encoding.means self.now) (desk_of areas.now) }
     {
-        if reply.len() < self.kept.settings.limit
-            || wide.len() < ESCAPED
-            || narrow.len() < ENCODED
+        if areas.reply.len() < self.kept.settings.limit
+            || areas.wide.len() < ESCAPED
+            || areas.narrow.len() < ENCODED
         {
             return Err(refused(Refusal::AreaTooShort));
         }
@@ -105,16 +93,16 @@ impl<L: Link, C: Carrier, E: Encoding> Session<L, C, E> {
         &mut self,
         command: Command<'_>,
         last: Reply,
-        wide: &mut [u8],
-        narrow: &mut [u8],
+        areas: &mut Areas<'_>,
     ) -> Result<(), Fault>
-        requires { (8704 ≤ length wide.old) × (4352 ≤ length narrow.old) }
-        ensures came { (area : List ℕ) → record { answer = result; after = model L.Link.means C.Carrier.means E.Encoding.means self.new; reply = area } ≡ perform_of command.entry.verb (option_map (λ x. x.now) command.entry.argument) last (model L.Link.means C.Carrier.means E.Encoding.means self.old) area }
+        requires { Serve self.old.kept.settings.limit areas.old }
+        ensures came { record { answer = result; after = model L.Link.means C.Carrier.means E.Encoding.means self.new; reply = areas.new.reply.now } ≡ perform_of command.entry.verb (option_map (λ x. x.now) command.entry.argument) last (model L.Link.means C.Carrier.means E.Encoding.means self.old) areas.old.reply.now }
         ensures kept { self.new.kept ≡ self.old.kept }
+        ensures same { SameAreas areas.old areas.new }
     {
         let verb = Some(command.verb);
-        match encode_line(command, &self.encoding, wide, narrow) {
-            Ok(length) => match self.link.put(&wide[0..length]) {
+        match encode_line(command, &self.encoding, areas.wide, areas.narrow) {
+            Ok(length) => match self.link.put(&areas.wide[0..length]) {
                 Ok(()) => Ok(()),
                 Err(_) => Err(fault_with(Refusal::LinkFull, verb, last)),
             },
@@ -123,13 +111,19 @@ impl<L: Link, C: Carrier, E: Encoding> Session<L, C, E> {
     }
 
     // Reads one reply. One that is not finished leaves the session out of step.
-    pub(crate) fn hear(&mut self, verb: Option<Verb>, reply: &mut [u8]) -> Result<Reply, Fault>
-        requires { self.old.kept.settings.limit ≤ length reply.old }
-        ensures came { record { answer = result; after = model L.Link.means C.Carrier.means E.Encoding.means self.new; reply = reply.new } ≡ hear_of verb (model L.Link.means C.Carrier.means E.Encoding.means self.old) reply.old }
+    pub(crate) fn hear(&mut self, verb: Option<Verb>, areas: &mut Areas<'_>) -> Result<Reply, Fault>
+        requires { Serve self.old.kept.settings.limit areas.old }
+        ensures came { record { answer = result; after = model L.Link.means C.Carrier.means E.Encoding.means self.new; reply = areas.new.reply.now } ≡ hear_of verb (model L.Link.means C.Carrier.means E.Encoding.means self.old) areas.old.reply.now }
+        ensures same { SameAreas areas.old areas.new }
         ensures settings { self.new.kept.settings ≡ self.old.kept.settings }
     {
         let limit = self.kept.settings.limit;
-        let answer = read_response(&mut self.link, &mut reply[0..limit], Rule::Usual, verb);
+        let answer = read_response(
+            &mut self.link,
+            &mut areas.reply[0..limit],
+            Rule::Usual,
+            verb,
+        );
         if answer.is_err() {
             self.kept.in_step = false;
         }
@@ -152,17 +146,16 @@ impl<L: Link, C: Carrier, E: Encoding> Session<L, C, E> {
         command: Command<'_>,
         expected: &[Status],
         last: Reply,
-        reply: &mut [u8],
-        wide: &mut [u8],
-        narrow: &mut [u8],
+        areas: &mut Areas<'_>,
     ) -> Result<Reply, Fault>
-        requires { (self.old.kept.settings.limit ≤ length reply.old) × ((8704 ≤ length wide.old) × (4352 ≤ length narrow.old)) }
-        ensures came { record { answer = result; after = model L.Link.means C.Carrier.means E.Encoding.means self.new; reply = reply.new } ≡ exchange_of command.entry.verb (option_map (λ x. x.now) command.entry.argument) expected.now last (model L.Link.means C.Carrier.means E.Encoding.means self.old) reply.old }
+        requires { Serve self.old.kept.settings.limit areas.old }
+        ensures came { record { answer = result; after = model L.Link.means C.Carrier.means E.Encoding.means self.new; reply = areas.new.reply.now } ≡ exchange_of command.entry.verb (option_map (λ x. x.now) command.entry.argument) expected.now last (model L.Link.means C.Carrier.means E.Encoding.means self.old) areas.old.reply.now }
+        ensures same { SameAreas areas.old areas.new }
         ensures settings { self.new.kept.settings ≡ self.old.kept.settings }
     {
         let verb = Some(command.verb);
-        self.perform(command, last, wide, narrow)?;
-        let answer = self.hear(verb, reply)?;
+        self.perform(command, last, areas)?;
+        let answer = self.hear(verb, areas)?;
         self.settle(answer.code);
         expect(expected, verb, answer)
     }

@@ -6,18 +6,19 @@ ghost use Rattle.session.specs.Calls.{verb_of, argument_of, statuses_of};
 use command::{Command, Verb};
 use reply::Status;
 
-#[derive(Clone, Copy)]
-pub enum Plain<'a> {
-    Cwd(&'a [u8]),
+// The path is borrowed where the command is sent, and may be owned where it is kept.
+#[derive(Clone, Copy, Drop)]
+pub enum Plain<T> {
+    Cwd(T),
     Cdup,
-    Dele(&'a [u8]),
-    Rmd(&'a [u8]),
-    Mkd(&'a [u8]),
+    Dele(T),
+    Rmd(T),
+    Mkd(T),
     Noop,
     Quit,
 }
 
-impl<'a> Plain<'a> {
+impl<'a> Plain<&'a [u8]> {
     // The line's verb and argument.
     pub fn command(self) -> Command<'a>
         ensures verb { result.verb ≡ verb_of self.entry }

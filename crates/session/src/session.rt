@@ -30,10 +30,6 @@ pub struct Session<L, C, E> {
     pub(crate) kept: Record,
 }
 
-const LEAST_LIMIT: usize = 512;
-
-const MOST_LIMIT: usize = 262_144;
-
 impl<L: Link, C: Carrier, E: Encoding> Session<L, C, E> {
     // A session that has read nothing yet. The carrier is closed.
     pub fn new(link: L, carrier: C, encoding: E, settings: Settings) -> Session<L, C, E>
@@ -42,11 +38,8 @@ impl<L: Link, C: Carrier, E: Encoding> Session<L, C, E> {
         let mut carrier = carrier;
         carrier.close();
         let settings = Settings {
-            mode: settings.mode,
-            nat_workaround: settings.nat_workaround,
-            peer: settings.peer,
-            peer_rule: settings.peer_rule,
-            limit: settings.limit.min(MOST_LIMIT).max(LEAST_LIMIT),
+            limit: settings.clamped_limit(),
+            ..settings
         };
         let kept = Record {
             settings,

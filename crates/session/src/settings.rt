@@ -1,5 +1,12 @@
 // What a session is made with.
+ghost use Rattle.std.specs.Prelude.{◌≡◌};
+ghost use Rattle.session.specs.Limits.{clamped};
+
 use carrier::{IpAddr, PeerRule};
+
+const LEAST_LIMIT: usize = 512;
+
+const MOST_LIMIT: usize = 262_144;
 
 // How data connections are made.
 #[derive(Clone, Copy)]
@@ -20,4 +27,13 @@ pub struct Settings {
     pub peer_rule: PeerRule,
     // The most bytes of one reply. A session takes the nearer of 512 and 262,144 for a limit outside them.
     pub limit: usize,
+}
+
+impl Settings {
+    // The limit as a session takes it.
+    pub fn clamped_limit(&self) -> usize
+        ensures { result ≡ clamped self.now.limit }
+    {
+        self.limit.clamp(LEAST_LIMIT, MOST_LIMIT)
+    }
 }

@@ -3,19 +3,24 @@ use crate::cases::settings;
 use carrier::{Carrier, CarrierState, Dialler, IpAddr, SocketAddr};
 use encoding::Utf8Encoding;
 use link::{Buffers, Ending};
-use session::Session;
+use session::{Areas, Session};
 
-// The number of greet's refusal, or 0.
-fn greet_in(reply: &mut [u8], wide: &mut [u8], narrow: &mut [u8]) -> u8 {
+// The code of the reply to greet, or the number of its refusal.
+fn greet_in(reply: &mut [u8], wide: &mut [u8], narrow: &mut [u8]) -> Result<u16, u8> {
+    let mut areas = Areas {
+        reply,
+        wide,
+        narrow,
+    };
     let mut out = [0; 1];
     let link = Buffers::new(&mut out, b"220 a\r\n", Ending::Closed);
     let mut session = Session::new(link, Dialler::new(), Utf8Encoding, settings(512));
-    let number = match session.greet(reply, wide, narrow) {
-        Ok(_) => 0,
-        Err(fault) => fault.number(),
-    };
+    let answer = session.greet(&mut areas);
     let (_link, _carrier, _encoding) = session.into_parts();
-    number
+    match answer {
+        Ok(reply) => Ok(reply.code),
+        Err(fault) => Err(fault.number()),
+    }
 }
 
 #[test]
@@ -23,10 +28,10 @@ fn areas_are_wiped(rt: HostRuntime) {
     let mut reply = [7; 12];
     let mut wide = [7; 8705];
     let mut narrow = [7; 4353];
-    assert_eq!(rt; greet_in(&mut reply, &mut wide, &mut narrow), 1);
+    assert_eq!(rt; greet_in(&mut reply, &mut wide, &mut narrow), Err(1));
     assert!(rt; reply == [7; 12] && wide == [7; 8705] && narrow == [7; 4353]);
     let mut longer = [7; 600];
-    assert_eq!(rt; greet_in(&mut longer, &mut wide, &mut narrow), 0);
+    assert_eq!(rt; greet_in(&mut longer, &mut wide, &mut narrow), Ok(220));
     assert!(rt; &longer[0..7] == b"220 a\r\n".as_slice() && &longer[7..600] == [7; 593].as_slice());
     assert!(rt; wide == [0; 8705] && narrow == [0; 4353]);
 }
@@ -36,10 +41,10 @@ fn short_work_areas_are_refused(rt: HostRuntime) {
     let mut reply = [7; 512];
     let mut wide = [7; 8703];
     let mut narrow = [7; 4352];
-    assert_eq!(rt; greet_in(&mut reply, &mut wide, &mut narrow), 1);
+    assert_eq!(rt; greet_in(&mut reply, &mut wide, &mut narrow), Err(1));
     let mut longer = [7; 8704];
     let mut shorter = [7; 4351];
-    assert_eq!(rt; greet_in(&mut reply, &mut longer, &mut shorter), 1);
+    assert_eq!(rt; greet_in(&mut reply, &mut longer, &mut shorter), Err(1));
     assert!(rt; reply == [7; 512] && wide == [7; 8703] && narrow == [7; 4352]);
     assert!(rt; longer == [7; 8704] && shorter == [7; 4351]);
 }

@@ -3,14 +3,33 @@ use carrier::{CarrierState, Dialler, IpAddr, PeerRule};
 use command::Verb;
 use encoding::Encoding;
 use link::{Buffers, Ending};
-use session::{Mode, Record, Settings};
+use reply::Reply;
+use session::{Areas, Mode, Record, Settings};
 use std::process::Abort;
-use tally::{Answer, Call, Lent, Row, run};
+use tally::{Ask, Call, Lent, Row, run};
 
-// What came of a call: the refusal's number or 0, the verb of its fault, the code, the length, and whether the session is
-// in step after it.
+// A refusal: its number, the verb of its fault, and the code and the length of the last reply read.
 #[derive(Clone, Copy, PartialEq, Eq, Debug)]
-pub struct Came(pub u8, pub Option<Verb>, pub u16, pub usize, pub bool);
+pub struct Numbered(pub u8, pub Option<Verb>, pub u16, pub usize);
+
+// What came of a call, and whether the session is in step after it.
+#[derive(Clone, Copy, PartialEq, Eq, Debug)]
+pub struct Came(pub Result<Option<Reply>, Numbered>, pub bool);
+
+// A reply with this code and length.
+pub fn passed(code: u16, length: usize) -> Came {
+    Came(Ok(Some(Reply { code, length })), true)
+}
+
+// A refusal, after which the session is in step or not.
+pub fn refused(number: u8, verb: Option<Verb>, code: u16, length: usize, in_step: bool) -> Came {
+    Came(Err(Numbered(number, verb, code, length)), in_step)
+}
+
+// A call that has no reply.
+pub fn done(in_step: bool) -> Came {
+    Came(Ok(None), in_step)
+}
 
 pub fn settings(limit: usize) -> Settings {
     Settings {
@@ -29,10 +48,15 @@ pub const FULL: Lent = Lent {
     narrow: 4352,
 };
 
+// A call with such areas.
+pub fn full(ask: Ask<&[u8]>) -> Call<&[u8]> {
+    Call { ask, lent: FULL }
+}
+
 // A row that no call has written to.
 fn unwritten() -> Row {
     Row {
-        answer: Answer::Done,
+        answer: Ok(None),
         kept: Record {
             settings: settings(0),
             greeted: false,
@@ -46,18 +70,24 @@ fn unwritten() -> Row {
 }
 
 fn came_of(row: &Row) -> Came {
-    let in_step = row.kept.in_step;
-    match row.answer {
-        Answer::Passed(reply) => Came(0, None, reply.code, reply.length, in_step),
-        Answer::Refused(fault) => Came(
-            fault.number(),
-            fault.verb,
-            fault.code,
-            fault.length,
-            in_step,
-        ),
-        Answer::Done => Came(0, None, 0, 0, in_step),
-    }
+    let answer = match row.answer {
+        Ok(reply) => Ok(reply),
+        Err(fault) => Err(Numbered(fault.number(), fault.verb, fault.code, fault.length)),
+    };
+    Came(answer, row.kept.in_step)
+}
+
+// Some calls over a link that takes `room` bytes and has `coming` to give, and what must have come of each, been sent and
+// been taken.
+#[derive(Clone, Copy)]
+pub struct Case<'a> {
+    pub room: usize,
+    pub coming: &'a [u8],
+    pub ending: Ending,
+    pub calls: &'a [Call<&'a [u8]>],
+    pub came: &'a [Came],
+    pub sent: &'a [u8],
+    pub taken: usize,
 }
 
 fn check_rows(rt: &impl Abort, rows: &[Row], came: &[Came]) {
@@ -67,66 +97,43 @@ fn check_rows(rt: &impl Abort, rows: &[Row], came: &[Came]) {
     }
 }
 
-// Makes the calls over a link of two buffers, writes what came of each, and says whether these bytes were sent and so many
+// Makes the calls over a link of two buffers, writes what came of each, and says whether the bytes were sent and so many
 // taken.
 fn runs<'a, E: Encoding + Drop>(
     encoding: E,
     out: &'a mut [u8],
-    coming: &'a [u8],
-    ending: Ending,
-    calls: &[Call<'_>],
+    case: Case<'a>,
     rows: &mut [Row],
-    sent: &[u8],
-    taken: usize,
 ) -> bool {
     let mut reply = [7; 512];
     let mut wide = [7; 8704];
     let mut narrow = [7; 4352];
-    let link = Buffers::new(out, coming, ending);
+    let mut areas = Areas {
+        reply: &mut reply,
+        wide: &mut wide,
+        narrow: &mut narrow,
+    };
+    let link = Buffers::new(out, case.coming, case.ending);
     let session = run(
         link,
         Dialler::new(),
         encoding,
         settings(512),
-        calls,
-        &mut reply,
-        &mut wide,
-        &mut narrow,
+        case.calls,
+        &mut areas,
         rows,
     );
     let (link, _carrier, _encoding) = session.into_parts();
     let count = link.taken();
-    link.sent() == sent && count == taken
+    link.sent() == case.sent && count == case.taken
 }
 
-// Makes the calls over a link with some room and some bytes coming, and checks what came of each, what was sent and how
-// much was taken.
-pub fn holds<E: Encoding + Drop>(
-    rt: &impl Abort,
-    encoding: E,
-    room: usize,
-    coming: &[u8],
-    ending: Ending,
-    calls: &[Call<'_>],
-    came: &[Came],
-    sent: &[u8],
-    taken: usize,
-) {
+// Makes the calls and checks what came of each, what was sent and how much was taken.
+pub fn holds<E: Encoding + Drop>(rt: &impl Abort, encoding: E, case: Case<'_>) {
     let mut out = [0; 64];
     let mut rows = [unwritten(); 5];
-    let room = room.min(64);
-    assert!(rt;
-        runs(
-            encoding,
-            &mut out[0..room],
-            coming,
-            ending,
-            calls,
-            &mut rows,
-            sent,
-            taken
-        )
-    );
-    assert_eq!(rt; came.len(), calls.len());
-    check_rows(rt, &rows, came);
+    let room = case.room.min(64);
+    assert!(rt; runs(encoding, &mut out[0..room], case, &mut rows));
+    assert_eq!(rt; case.came.len(), case.calls.len());
+    check_rows(rt, &rows, case.came);
 }

@@ -1,12 +1,12 @@
 // The lines that are sent, and every refusal of a line.
-use crate::cases::{Came, FULL, holds};
+use crate::cases::{Came, Case, full, holds, passed, refused};
 use crate::encodings::{Mute, Prefixed, Suffixed};
 use command::Verb;
 use encoding::{Encoding, Utf8Encoding};
 use link::Ending;
 use session::Plain;
 use std::process::Abort;
-use tally::{Ask, Call};
+use tally::Ask;
 
 // CWD after the greeting, over a link with some room.
 fn changes_directory<E: Encoding + Drop>(
@@ -18,52 +18,28 @@ fn changes_directory<E: Encoding + Drop>(
     sent: &[u8],
     taken: usize,
 ) {
-    let came = [Came(0, None, 220, 7, true), came];
-    let coming = b"220 a\r\n250 b\r\n";
     holds(
         rt,
         encoding,
-        room,
-        coming,
-        Ending::Closed,
-        &[
-            Call {
-                ask: Ask::Greet,
-                lent: FULL,
-            },
-            Call {
-                ask: Ask::Plain(Plain::Cwd(path)),
-                lent: FULL,
-            },
-        ],
-        &came,
-        sent,
-        taken,
+        Case {
+            room,
+            coming: b"220 a\r\n250 b\r\n",
+            ending: Ending::Closed,
+            calls: &[full(Ask::Greet), full(Ask::Plain(Plain::Cwd(path)))],
+            came: &[passed(220, 7), came],
+            sent,
+            taken,
+        },
     );
 }
 
 fn passes<E: Encoding + Drop>(rt: &impl Abort, encoding: E, room: usize, path: &[u8], sent: &[u8]) {
-    changes_directory(
-        rt,
-        encoding,
-        room,
-        path,
-        Came(0, None, 250, 7, true),
-        sent,
-        14,
-    );
+    changes_directory(rt, encoding, room, path, passed(250, 7), sent, 14);
 }
 
 fn refuses<E: Encoding + Drop>(rt: &impl Abort, encoding: E, room: usize, path: &[u8], number: u8) {
-    changes_directory(
-        rt,
-        encoding,
-        room,
-        path,
-        Came(number, Some(Verb::Cwd), 0, 0, true),
-        b"",
-        7,
-    );
+    let came = refused(number, Some(Verb::Cwd), 0, 0, true);
+    changes_directory(rt, encoding, room, path, came, b"", 7);
 }
 
 #[test]

@@ -1,5 +1,6 @@
 -- What each call does, from its pieces. Assumes nothing.
-use Rattle.std.proofs.Common.{◌≡◌, ℕ, Bool, true, false, cond, eqb, List, [], ◌∷◌, ◌++◌, Some, Ok, Err, Result, sym, refl, ap, ◌∙◌, subst, inl, inr, arith}
+use Rattle.std.proofs.Common.{◌≡◌, ℕ, Bool, true, false, cond, eqb, List, [], ◌∷◌, ◌++◌, Some, None, Ok, Err, Result, sym, refl, ap, ◌∙◌, subst, inl, inr, arith}
+use Rattle.std.specs.Borrow.{Bor}
 use Rattle.std.proofs.lemmas.Bool.{eqb-true}
 use Rattle.encoding.specs.Code.{Code}
 use Rattle.command.specs.Types.{type_text}
@@ -14,10 +15,7 @@ use Rattle.session.specs.Outcome.{Outcome, ends, past}
 use Rattle.session.specs.Calls.{none_read, questions_of, exchange_of, password_of, logging_in, renaming, verb_of, argument_of, statuses_of, resume_of}
 use Rattle.session.specs.declared.plain.Plain.{Plain as PlainCommand}
 use Rattle.session.specs.declared.plain.Plain.TheVariants.{Cwd as DoCwd, Cdup as DoCdup, Dele as DoDele, Rmd as DoRmd, Mkd as DoMkd, Noop as DoNoop, Quit as DoQuit}
-use Rattle.tally.specs.declared.calls.Ask.{Ask}
 use Rattle.tally.specs.declared.calls.Ask.TheVariants.{Greet, Login, Plain, Rename, TransferType, Resume}
-use Rattle.tally.specs.declared.calls.Answer.{Answer}
-use Rattle.tally.specs.declared.calls.Answer.TheVariants.{Done}
 use Rattle.tally.specs.Observed.{by_ask}
 use Rattle.tally.specs.Tally.{Tally}
 use Rattle.tally.specs.Law.{Said, say, said_by, unsent, one_of, speaks_of, two_of, handed, LoginAccepts, RenameAccepts}
@@ -28,6 +26,7 @@ use Rattle.tally.proofs.Refusals.{last_read}
 use Rattle.tally.proofs.Pieces.{Sofar, Settled, Exchanged, does_exchange}
 use Rattle.tally.proofs.Ended.{Ended, Moved, moved_by, moved_none, moved-past}
 use Rattle.tally.proofs.Greeting.{greet_moves}
+use Rattle.tally.specs.Asked.{Asked, Verdict}
 
 -- where a call begins, no reply was read in it
 begins : (t : Tally) (area : List ℕ) → Sofar t t (last_read none_read) area
@@ -38,15 +37,15 @@ last_sofar : (t₀ t : Tally) (c : Reply) (area : List ℕ) → last_read c ≡ 
 last_sofar t₀ t c area e h = subst (λ r. Sofar t₀ t r area) (sym e) h
 
 -- what a call by lines comes to, from where it began: A says by its answer which commands were accepted
-abbrev Through : (Answer → List Said → Type 0) → Tally → Result Reply Fault → List Said → List ℕ → Tally → Type 0
+abbrev Through : (Verdict → List Said → Type 0) → Tally → Result Reply Fault → List Said → List ℕ → Tally → Type 0
 Through A t₀ r saids area t = A (told r) saids × Sofar t₀ t (handed (told r)) area
 
 -- a call by lines, behind its first questions
-by_lines : (code : Code) (ask : Ask) (m : Model) (t : Tally) (d : Desk) (o : Outcome (Result Reply Fault)) (A : Answer → List Said → Type 0) → by_ask ask (told o.answer) ≡ [] → ((r : Result Reply Fault) (saids : List Said) (area : List ℕ) (u : Tally) → Through A t r saids area u → Ended ask t (told r) saids area u) → Tied code m t → (t.broken ≡ false → Does code m t o (Through A t)) → Moved code ask m t (in_words (past (questions_of true m d) m d o))
+by_lines : (code : Code) (ask : Asked) (m : Model) (t : Tally) (d : Desk) (o : Outcome (Result Reply Fault)) (A : Verdict → List Said → Type 0) → by_ask ask (told o.answer) ≡ [] → ((r : Result Reply Fault) (saids : List Said) (area : List ℕ) (u : Tally) → Through A t r saids area u → Ended ask t (told r) saids area u) → Tied code m t → (t.broken ≡ false → Does code m t o (Through A t)) → Moved code ask m t (in_words (past (questions_of true m d) m d o))
 by_lines code ask m t d o A unmarked ends tied does = moved-past code ask true m t d o tied (λ e. moved_by code ask m t d o unmarked (does_weaken code (Through A t) (λ r. Ended ask t (told r)) m t o ends (does e)))
 
 -- a call of one line
-abbrev One : Said → Answer → List Said → Type 0
+abbrev One : Said → Verdict → List Said → Type 0
 One s a saids = saids ≡ one_of s a
 
 -- its line and reply
@@ -58,7 +57,7 @@ does_one code s expected m t area tied e = does_weaken code (Exchanged s expecte
     one_line (Err f) saids a u h = (h.said, h.sofar)
 
 -- its command
-said_is : (p : PlainCommand) → record { verb = verb_of p; argument = argument_of p } ≡ said_by p
+said_is : (p : PlainCommand (Bor (List ℕ))) → record { verb = verb_of p; argument = argument_of p } ≡ said_by p
 said_is (DoCwd path) = refl
 said_is DoCdup = refl
 said_is (DoDele path) = refl
@@ -154,12 +153,12 @@ does_rename code from to m t area tied e =
 -- a call that only remembers an offset
 resume_moves : (code : Code) (n : ℕ) (m : Model) (t : Tally) (d : Desk) → Tied code m t → Moved code (Resume n) m t (ask_of (Resume n) m d)
 resume_moves code n m t d tied =
-    moved_none code (Resume n) m t Done (resume_of n m) d refl refl
+    moved_none code (Resume n) m t (Ok None) (resume_of n m) d refl refl
     (record { code = tied.code; limit = tied.limit; ending = tied.ending; step = tied.step; settled = tied.settled; left = tied.left; ended = tied.ended; shut = tied.shut; carrier = tied.carrier; count = tied.count })
     (record { accepts = refl; newest = refl })
 
 -- any call
-pub moves : (code : Code) (ask : Ask) (m : Model) (t : Tally) (d : Desk) → Tied code m t → Moved code ask m t (ask_of ask m d)
+pub moves : (code : Code) (ask : Asked) (m : Model) (t : Tally) (d : Desk) → Tied code m t → Moved code ask m t (ask_of ask m d)
 moves code Greet m t d tied = greet_moves code m t d tied
 moves code (Login user password) m t d tied =
     by_lines code (Login user password) m t d _ (LoginAccepts (say User user.now) (say Pass password.now)) refl (λ r saids area u h. record { accepts = h.0; newest = h.1.newest }) tied

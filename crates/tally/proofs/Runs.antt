@@ -8,8 +8,6 @@ use Rattle.command.specs.Lines.{text_of}
 use Rattle.session.specs.Model.{Model, Desk, fresh}
 use Rattle.session.specs.Outcome.{Called}
 use Rattle.session.specs.declared.settings.Settings.{Settings}
-use Rattle.tally.specs.declared.calls.Answer.{Answer}
-use Rattle.tally.specs.declared.calls.Call.{Call}
 use Rattle.tally.specs.Observed.{Shown, Seen, lines_on, lines_in, lines_all, Wholes, joined, texts, marked, by_ask, marks_of, marks_all, taken, shown_after}
 use Rattle.tally.specs.Tally.{Tally, on, tally}
 use Rattle.tally.specs.Law.{Start, Said, texts_of, handed, Own, Newest, Stands, Replies, tally_of}
@@ -19,6 +17,7 @@ use Rattle.tally.proofs.Tallies.{never, with_more, goes_on}
 use Rattle.tally.proofs.Logic.{Spoken, Tied}
 use Rattle.tally.proofs.Ended.{Moved}
 use Rattle.tally.proofs.Moves.{moves}
+use Rattle.tally.specs.Asked.{Made, Verdict}
 
 marks_push : (ss : List Seen) (s : Seen) → marks_all (ss ++ (s ∷ [])) ≡ marks_all ss ++ marks_of s
 marks_push [] s = append-nil (marks_of s)
@@ -69,12 +68,12 @@ spoken_texts c back (s ∷ saids) (l ∷ lines) h = ap (λ z. z ∷ texts c line
 
 module _ (s : Start) (back : Back s.code) where
   -- one call with its areas
-  made : (k : Call) (m : Model) (d : Desk) (t : Tally) → Tied s.code m t → Moved s.code k.ask m t (made_of k m d)
+  made : (k : Made) (m : Model) (d : Desk) (t : Tally) → Tied s.code m t → Moved s.code k.ask m t (made_of k m d)
   unfolding made_of
   made k m d t tied = moves s.code k.ask m t _ tied
 
   -- what is observed of it is what it sent
-  module _ (k : Call) (m : Model) (d : Desk) (t : Tally) (moved : Moved s.code k.ask m t (made_of k m d)) where
+  module _ (k : Made) (m : Model) (d : Desk) (t : Tally) (moved : Moved s.code k.ask m t (made_of k m d)) where
     lines_seen : lines_in (seen_of k m d) ≡ moved.lines
     lines_seen = ap (lines_on []) (grown_is m.wire (made_of k m d).after.wire (joined moved.lines) moved.out) ∙ lines_back moved.lines (spoken_whole s.code moved.saids moved.lines moved.spoken)
 
@@ -84,7 +83,7 @@ module _ (s : Start) (back : Back s.code) where
     -- one call after the others
     along_more : (ss : List Seen) → Along s m ss t → Along s (made_of k m d).after (ss ++ (seen_of k m d ∷ [])) moved.now
     along_more ss h =
-        let o : Called Answer = made_of k m d in
+        let o : Called Verdict = made_of k m d in
         record {
           bytes = h.bytes ++ moved.took;
           coming = h.coming ∙ ap (λ z. h.bytes ++ z) moved.coming ∙ sym (append_assoc h.bytes moved.took o.after.wire.coming);
@@ -133,7 +132,7 @@ module _ (s : Start) (back : Back s.code) where
   abbrev After : List Seen → Seen → Type 0
   After ss x = Replies s x (tally_of s ss) (tally_of s (ss ++ (x ∷ []))) × Stands s x.after (ss ++ (x ∷ [])) (tally_of s (ss ++ (x ∷ [])))
 
-  after_one : (k : Call) (m : Model) (d : Desk) (ss : List Seen) (t : Tally) → Along s m ss t → After ss (seen_of k m d)
+  after_one : (k : Made) (m : Model) (d : Desk) (ss : List Seen) (t : Tally) → Along s m ss t → After ss (seen_of k m d)
   after_one k m d ss t h =
       let x : Seen = seen_of k m d in
       let moved = made k m d t h.tied in
@@ -150,7 +149,7 @@ module _ (s : Start) (back : Back s.code) where
       )
 
   -- any part of a list of calls, and any call after it
-  after_each : (calls : List Call) (m : Model) (d : Desk) (ss : List Seen) (t : Tally) → Along s m ss t → (before : List Seen) (x : Seen) (rest : List Seen) → seen_all m d calls ≡ before ++ (x ∷ rest) → After (ss ++ before) x
+  after_each : (calls : List Made) (m : Model) (d : Desk) (ss : List Seen) (t : Tally) → Along s m ss t → (before : List Seen) (x : Seen) (rest : List Seen) → seen_all m d calls ≡ before ++ (x ∷ rest) → After (ss ++ before) x
   after_each [] m d ss t h [] x rest e = let z : ◌≡◌ {A = ℕ} 0 1 = cc in absurd (omega arith)
   after_each [] m d ss t h (b ∷ before) x rest e = let z : ◌≡◌ {A = ℕ} 0 1 = cc in absurd (omega arith)
   after_each (k ∷ calls) m d ss t h [] x rest e =

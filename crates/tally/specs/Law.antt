@@ -13,13 +13,12 @@ use Rattle.reply.specs.Replies.{Unread, count}
 use Rattle.reply.specs.declared.reply.Reply.{Reply}
 use Rattle.session.specs.declared.plain.Plain.{Plain as PlainCommand}
 use Rattle.session.specs.declared.plain.Plain.TheVariants.{Cwd as DoCwd, Cdup as DoCdup, Dele as DoDele, Rmd as DoRmd, Mkd as DoMkd, Noop as DoNoop, Quit as DoQuit}
+use Rattle.std.specs.Borrow.{Bor}
 use Rattle.std.specs.Str.{bytes_eq}
-use Rattle.tally.specs.declared.calls.Ask.{Ask}
 use Rattle.tally.specs.declared.calls.Ask.TheVariants.{Greet, Login, Plain, Rename, TransferType, Resume}
-use Rattle.tally.specs.declared.calls.Answer.{Answer}
-use Rattle.tally.specs.declared.calls.Answer.TheVariants.{Passed, Refused, Done}
 use Rattle.tally.specs.Observed.{Shown, Seen, lines_in, lines_all, Wholes, joined, texts, marks_all, taken, shown_after}
 use Rattle.tally.specs.Tally.{Given, Tally, tally, cut_short}
+use Rattle.tally.specs.Asked.{Asked, Verdict}
 
 -- where a run starts: what the session shows when it is new, its encoding, and the limit of a reply
 pub record Start : Type 0 where
@@ -42,7 +41,7 @@ abbrev pub texts_of : List Said → List (List ℕ)
 texts_of [] = []
 texts_of (c ∷ cs) = text_of c.verb c.argument ∷ texts_of cs
 
-abbrev pub said_by : PlainCommand → Said
+abbrev pub said_by : PlainCommand (Bor (List ℕ)) → Said
 said_by (DoCwd path) = say Cwd path.now
 said_by DoCdup = say_bare Cdup
 said_by (DoDele path) = say Dele path.now
@@ -56,10 +55,10 @@ abbrev pub unsent : Fault → Bool
 unsent e = nat_le (number_of e.refusal) 12
 
 -- the commands that a call of one line had accepted, by its answer
-abbrev pub one_of : Said → Answer → List Said
-one_of c (Passed r) = c ∷ []
-one_of c (Refused e) = cond (unsent e) [] (c ∷ [])
-one_of c Done = []
+abbrev pub one_of : Said → Verdict → List Said
+one_of c (Ok (Some r)) = c ∷ []
+one_of c (Err e) = cond (unsent e) [] (c ∷ [])
+one_of c (Ok None) = []
 
 -- the commands that a call of two lines had accepted, by the line that its fault speaks of
 abbrev pub speaks_of : Option Verb → Said → Bool
@@ -70,18 +69,18 @@ abbrev pub two_of : Said → Said → Fault → List Said
 two_of c d e = cond (speaks_of e.verb c) (cond (unsent e) [] (c ∷ [])) (cond (speaks_of e.verb d) (cond (unsent e) (c ∷ []) (c ∷ d ∷ [])) [])
 
 -- a login passes after one line or after two
-abbrev pub LoginAccepts : Said → Said → Answer → List Said → Type 0
-LoginAccepts c d (Passed r) cs = (cs ≡ c ∷ []) ⊎ (cs ≡ c ∷ d ∷ [])
-LoginAccepts c d (Refused e) cs = cs ≡ two_of c d e
-LoginAccepts c d Done cs = ⊥
+abbrev pub LoginAccepts : Said → Said → Verdict → List Said → Type 0
+LoginAccepts c d (Ok (Some r)) cs = (cs ≡ c ∷ []) ⊎ (cs ≡ c ∷ d ∷ [])
+LoginAccepts c d (Err e) cs = cs ≡ two_of c d e
+LoginAccepts c d (Ok None) cs = ⊥
 
-abbrev pub RenameAccepts : Said → Said → Answer → List Said → Type 0
-RenameAccepts c d (Passed r) cs = cs ≡ c ∷ d ∷ []
-RenameAccepts c d (Refused e) cs = cs ≡ two_of c d e
-RenameAccepts c d Done cs = ⊥
+abbrev pub RenameAccepts : Said → Said → Verdict → List Said → Type 0
+RenameAccepts c d (Ok (Some r)) cs = cs ≡ c ∷ d ∷ []
+RenameAccepts c d (Err e) cs = cs ≡ two_of c d e
+RenameAccepts c d (Ok None) cs = ⊥
 
 -- the commands that a call had accepted
-abbrev pub Accepts : Ask → Answer → List Said → Type 0
+abbrev pub Accepts : Asked → Verdict → List Said → Type 0
 Accepts Greet a cs = cs ≡ []
 Accepts (Login user password) a cs = LoginAccepts (say User user.now) (say Pass password.now) a cs
 Accepts (Plain p) a cs = cs ≡ one_of (said_by p) a
@@ -99,16 +98,16 @@ read_by e =
     cond (unfinished e) (Some (Err (record { why = e.refusal; length = e.length })))
     (cond (e.length == 0) None (Some (Ok (record { code = e.code; length = e.length }))))
 
-abbrev pub handed : Answer → Option (Result Reply Unread)
-handed (Passed c) = Some (Ok c)
-handed (Refused e) = read_by e
-handed Done = None
+abbrev pub handed : Verdict → Option (Result Reply Unread)
+handed (Ok (Some c)) = Some (Ok c)
+handed (Err e) = read_by e
+handed (Ok None) = None
 
 -- a call's own line, between the tallies before and after it: the last that it had accepted, and in greet the greeting
 abbrev pub Accepted : Tally → Tally → ℕ → Type 0
 Accepted t u n = (u.lines ≡ suc n) × (t.lines ≤ n)
 
-abbrev pub Own : Ask → Tally → Tally → ℕ → Type 0
+abbrev pub Own : Asked → Tally → Tally → ℕ → Type 0
 Own Greet t u n = n ≡ 0
 Own (Login user password) t u n = Accepted t u n
 Own (Plain p) t u n = Accepted t u n

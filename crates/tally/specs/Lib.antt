@@ -1,3 +1,4 @@
+pub mod Asked
 pub mod Observed
 pub mod Tally
 pub mod Law

@@ -1,6 +1,6 @@
 -- What may be observed of a run: each call with its answer, and what the session shows before and after it. The lines sent
 -- are read back from the bytes, and so is the text of each. Assumes nothing.
-use Rattle.std.specs.Prelude.{ℕ, ◌-◌, cond, List, [], ◌∷◌, ◌++◌, length, take, drop, ◌==◌, nat_le}
+use Rattle.std.specs.Prelude.{ℕ, ◌-◌, cond, List, [], ◌∷◌, ◌++◌, length, take, drop, Some, None, Ok, Err, ◌==◌, nat_le}
 use Rattle.link.specs.Wire.{Wire}
 use Rattle.encoding.specs.Code.{Code}
 use Rattle.command.specs.Laws.{Whole}
@@ -8,10 +8,8 @@ use Rattle.command.specs.Lines.{unescape}
 use Rattle.command.specs.Refusals.{number_of}
 use Rattle.carrier.specs.declared.carrier.CarrierState.{CarrierState}
 use Rattle.session.specs.declared.session.Record.{Record}
-use Rattle.tally.specs.declared.calls.Ask.{Ask}
 use Rattle.tally.specs.declared.calls.Ask.TheVariants.{Greet, Login, Plain, Rename, TransferType, Resume}
-use Rattle.tally.specs.declared.calls.Answer.{Answer}
-use Rattle.tally.specs.declared.calls.Answer.TheVariants.{Passed, Refused, Done}
+use Rattle.tally.specs.Asked.{Asked, Verdict}
 
 -- what a session shows: what its link means, what it remembers, and its carrier's state
 pub record Shown : Type 0 where
@@ -21,8 +19,8 @@ pub record Shown : Type 0 where
 
 -- one call of a run; `front` is what the reply area holds that it was lent
 pub record Seen : Type 0 where
-  pub ask : Ask
-  pub answer : Answer
+  pub ask : Asked
+  pub answer : Verdict
   pub before : Shown
   pub after : Shown
   pub front : List ℕ
@@ -69,12 +67,12 @@ marked [] = []
 marked (l ∷ ls) = sent l ∷ marked ls
 
 -- a greet passed its first questions unless its number is up to 5
-abbrev pub greeting_by : Answer → List Mark
-greeting_by (Passed c) = greeting ∷ []
-greeting_by (Refused e) = cond (nat_le (number_of e.refusal) 5) [] (greeting ∷ [])
-greeting_by Done = []
+abbrev pub greeting_by : Verdict → List Mark
+greeting_by (Ok (Some c)) = greeting ∷ []
+greeting_by (Err e) = cond (nat_le (number_of e.refusal) 5) [] (greeting ∷ [])
+greeting_by (Ok None) = []
 
-abbrev pub by_ask : Ask → Answer → List Mark
+abbrev pub by_ask : Asked → Verdict → List Mark
 by_ask Greet a = greeting_by a
 by_ask (Login user password) a = []
 by_ask (Plain p) a = []

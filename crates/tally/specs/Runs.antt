@@ -1,5 +1,5 @@
 -- A list of calls made one after another, and what is seen of them. Assumes nothing.
-use Rattle.std.specs.Prelude.{min, List, [], ◌∷◌, ◌++◌, length, take, drop, Ok, Err, Result}
+use Rattle.std.specs.Prelude.{min, List, [], ◌∷◌, ◌++◌, length, take, drop, Some, None, Ok, Err, Result}
 use Rattle.link.specs.Wire.{Wire}
 use Rattle.carrier.specs.Deck.{Deck}
 use Rattle.encoding.specs.Code.{Code, Back}
@@ -9,31 +9,28 @@ use Rattle.session.specs.Model.{Model, Desk, fresh, limit_of}
 use Rattle.session.specs.Outcome.{Called}
 use Rattle.session.specs.Calls.{greet_of, login_of, plain_of, rename_of, type_of, resume_of}
 use Rattle.session.specs.declared.settings.Settings.{Settings}
-use Rattle.tally.specs.declared.calls.Ask.{Ask}
 use Rattle.tally.specs.declared.calls.Ask.TheVariants.{Greet, Login, Plain, Rename, TransferType, Resume}
-use Rattle.tally.specs.declared.calls.Answer.{Answer}
-use Rattle.tally.specs.declared.calls.Answer.TheVariants.{Passed, Refused, Done}
-use Rattle.tally.specs.declared.calls.Call.{Call}
 use Rattle.tally.specs.declared.calls.Lent.{Lent}
 use Rattle.tally.specs.declared.calls.Row.{Row}
 use Rattle.tally.specs.Observed.{Shown, Seen}
 use Rattle.tally.specs.Law.{Start, Lawful}
+use Rattle.tally.specs.Asked.{Asked, Made, Verdict}
 
-abbrev pub told : Result Reply Fault → Answer
-told (Ok c) = Passed c
-told (Err e) = Refused e
+abbrev pub told : Result Reply Fault → Verdict
+told (Ok c) = Ok (Some c)
+told (Err e) = Err e
 
-abbrev pub in_words : Called (Result Reply Fault) → Called Answer
+abbrev pub in_words : Called (Result Reply Fault) → Called Verdict
 in_words c = record { answer = told c.answer; after = c.after; desk = c.desk }
 
 -- one call with the areas that it is lent
-abbrev pub ask_of : Ask → Model → Desk → Called Answer
+abbrev pub ask_of : Asked → Model → Desk → Called Verdict
 ask_of Greet m d = in_words (greet_of m d)
 ask_of (Login user password) m d = in_words (login_of user.now password.now m d)
 ask_of (Plain p) m d = in_words (plain_of p m d)
 ask_of (Rename from to) m d = in_words (rename_of from.now to.now m d)
 ask_of (TransferType t) m d = in_words (type_of t m d)
-ask_of (Resume n) m d = record { answer = Done; after = resume_of n m; desk = d }
+ask_of (Resume n) m d = record { answer = Ok None; after = resume_of n m; desk = d }
 
 -- of each area the first bytes, as many as the call asks to be lent, or all where there are fewer
 abbrev pub lend : Lent → Desk → Desk
@@ -43,28 +40,28 @@ lend l d = record { reply = take (min l.reply (length d.reply)) d.reply; wide = 
 abbrev pub give_back : Lent → Desk → Desk → Desk
 give_back l used d = record { reply = used.reply ++ drop (min l.reply (length d.reply)) d.reply; wide = used.wide ++ drop (min l.wide (length d.wide)) d.wide; narrow = used.narrow ++ drop (min l.narrow (length d.narrow)) d.narrow }
 
-unfoldable pub made_of : Call → Model → Desk → Called Answer
+unfoldable pub made_of : Made → Model → Desk → Called Verdict
 made_of k m d = ask_of k.ask m (lend k.lent d)
 
-abbrev pub areas_after : Call → Model → Desk → Desk
+abbrev pub areas_after : Made → Model → Desk → Desk
 areas_after k m d = give_back k.lent (made_of k m d).desk d
 
 abbrev pub shows : Model → Shown
 shows m = record { wire = m.wire; kept = m.kept; carrier = m.deck.state }
 
-abbrev pub seen_of : Call → Model → Desk → Seen
+abbrev pub seen_of : Made → Model → Desk → Seen
 seen_of k m d = record { ask = k.ask; answer = (made_of k m d).answer; before = shows m; after = shows (made_of k m d).after; front = (made_of k m d).desk.reply }
 
 -- a list of calls, one after the other
-abbrev pub after_all : Model → Desk → List Call → Model
+abbrev pub after_all : Model → Desk → List Made → Model
 after_all m d [] = m
 after_all m d (k ∷ ks) = after_all (made_of k m d).after (areas_after k m d) ks
 
-abbrev pub areas_all : Model → Desk → List Call → Desk
+abbrev pub areas_all : Model → Desk → List Made → Desk
 areas_all m d [] = d
 areas_all m d (k ∷ ks) = areas_all (made_of k m d).after (areas_after k m d) ks
 
-abbrev pub seen_all : Model → Desk → List Call → List Seen
+abbrev pub seen_all : Model → Desk → List Made → List Seen
 seen_all m d [] = []
 seen_all m d (k ∷ ks) = seen_of k m d ∷ seen_all (made_of k m d).after (areas_after k m d) ks
 
@@ -88,4 +85,4 @@ start_of st w d c = record { new = shows (fresh st w d c); code = c; limit = lim
 
 -- the law of every run: any settings, link, carrier and lawful encoding, any areas, and any list of calls
 abbrev pub EveryRun : Type 0
-EveryRun = (st : Settings) (w : Wire) (d : Deck) (c : Code) → Back c → (areas : Desk) (calls : List Call) → Lawful (start_of st w d c) (seen_all (fresh st w d c) areas calls)
+EveryRun = (st : Settings) (w : Wire) (d : Deck) (c : Code) → Back c → (areas : Desk) (calls : List Made) → Lawful (start_of st w d c) (seen_all (fresh st w d c) areas calls)

@@ -4,38 +4,33 @@ use command::{Fault, FileType};
 use reply::Reply;
 use session::{Plain as PlainCommand, Record};
 
-// What is asked of the session.
-#[derive(Clone, Copy)]
-pub enum Ask<'a> {
+// What is asked of the session. The texts are borrowed where the call is made, and may be owned where it is kept.
+#[derive(Clone, Copy, Drop)]
+pub enum Ask<T> {
     Greet,
-    Login(&'a [u8], &'a [u8]),
-    Plain(PlainCommand<'a>),
-    Rename(&'a [u8], &'a [u8]),
+    Login(T, T),
+    Plain(PlainCommand<T>),
+    Rename(T, T),
     TransferType(FileType),
     Resume(u64),
 }
 
 // How many bytes of each area are lent to a call.
-#[derive(Clone, Copy)]
+#[derive(Clone, Copy, PartialEq, Eq, Debug)]
 pub struct Lent {
     pub reply: usize,
     pub wide: usize,
     pub narrow: usize,
 }
 
-#[derive(Clone, Copy)]
-pub struct Call<'a> {
-    pub ask: Ask<'a>,
+#[derive(Clone, Copy, Drop)]
+pub struct Call<T> {
+    pub ask: Ask<T>,
     pub lent: Lent,
 }
 
-// What a call answered. `Done` is the answer of a call that never refuses and has no reply.
-#[derive(Clone, Copy)]
-pub enum Answer {
-    Passed(Reply),
-    Refused(Fault),
-    Done,
-}
+// What a call answered: its last reply, if it is one that has replies; or why it was refused.
+pub type Answer = Result<Option<Reply>, Fault>;
 
 // What is recorded of a call: its answer, and what the session remembers and its carrier's state after it.
 #[derive(Clone, Copy)]

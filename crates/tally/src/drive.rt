@@ -1,71 +1,64 @@
 // One call of a list, and all of them.
 ghost use Rattle.std.specs.Prelude.{◌≡◌, slice_set};
-ghost use Rattle.session.specs.Model.{model, desk, fresh};
+ghost use Rattle.session.specs.Areas.{desk_of, SameAreas};
+ghost use Rattle.session.specs.Model.{model, fresh, desk};
 ghost use Rattle.tally.specs.Law.{Lawful};
-ghost use Rattle.tally.specs.Runs.{told, ask_of, made_of, areas_after, after_all, areas_all, seen_all, rows_of, noted, start_of};
+ghost use Rattle.tally.specs.Runs.{ask_of, made_of, areas_after, after_all, areas_all, seen_all, rows_of, noted, start_of};
 
 use crate::calls::{Answer, Ask, Call, Row};
 use carrier::Carrier;
-use command::Fault;
 use encoding::Encoding;
 use link::Link;
-use reply::Reply;
-use session::{Session, Settings};
-
-fn answer(came: Result<Reply, Fault>) -> Answer
-    ensures { result ≡ told came }
-{
-    match came {
-        Ok(reply) => Answer::Passed(reply),
-        Err(fault) => Answer::Refused(fault),
-    }
-}
+use session::{Areas, Session, Settings};
 
 fn put_to<L: Link, C: Carrier, E: Encoding>(
     session: &mut Session<L, C, E>,
-    ask: Ask<'_>,
+    ask: Ask<&[u8]>,
     reply: &mut [u8],
     wide: &mut [u8],
     narrow: &mut [u8],
 ) -> Answer
     ensures { record { answer = result; after = model L.Link.means C.Carrier.means E.Encoding.means session.new; desk = desk reply.new wide.new narrow.new } ≡ ask_of ask.entry (model L.Link.means C.Carrier.means E.Encoding.means session.old) (desk reply.old wide.old narrow.old) }
 {
-    match ask {
-        Ask::Greet => answer(session.greet(reply, wide, narrow)),
-        Ask::Login(user, password) => answer(session.login(user, password, reply, wide, narrow)),
-        Ask::Plain(plain) => answer(session.plain(plain, reply, wide, narrow)),
-        Ask::Rename(from, to) => answer(session.rename(from, to, reply, wide, narrow)),
-        Ask::TransferType(file_type) => answer(session.transfer_type(
-            file_type, reply, wide, narrow,
-        )),
+    let mut areas = Areas {
+        reply,
+        wide,
+        narrow,
+    };
+    let reply = match ask {
+        Ask::Greet => session.greet(&mut areas)?,
+        Ask::Login(user, password) => session.login(user, password, &mut areas)?,
+        Ask::Plain(plain) => session.plain(plain, &mut areas)?,
+        Ask::Rename(from, to) => session.rename(from, to, &mut areas)?,
+        Ask::TransferType(file_type) => session.transfer_type(file_type, &mut areas)?,
         Ask::Resume(offset) => {
             session.resume(offset);
-            Answer::Done
+            return Ok(None);
         }
-    }
+    };
+    Ok(Some(reply))
 }
 
 // Makes one call. It is lent the first bytes of each area, as many as it asks for, or all where there are fewer.
 pub fn make<L: Link, C: Carrier, E: Encoding>(
     session: &mut Session<L, C, E>,
-    call: Call<'_>,
-    reply: &mut [u8],
-    wide: &mut [u8],
-    narrow: &mut [u8],
+    call: Call<&[u8]>,
+    areas: &mut Areas<'_>,
 ) -> Answer
-    ensures answer { result ≡ (made_of call.entry (model L.Link.means C.Carrier.means E.Encoding.means session.old) (desk reply.old wide.old narrow.old)).answer }
-    ensures after { model L.Link.means C.Carrier.means E.Encoding.means session.new ≡ (made_of call.entry (model L.Link.means C.Carrier.means E.Encoding.means session.old) (desk reply.old wide.old narrow.old)).after }
-    ensures areas { desk reply.new wide.new narrow.new ≡ areas_after call.entry (model L.Link.means C.Carrier.means E.Encoding.means session.old) (desk reply.old wide.old narrow.old) }
+    ensures answer { result ≡ (made_of call.entry (model L.Link.means C.Carrier.means E.Encoding.means session.old) (desk_of areas.old)).answer }
+    ensures after { model L.Link.means C.Carrier.means E.Encoding.means session.new ≡ (made_of call.entry (model L.Link.means C.Carrier.means E.Encoding.means session.old) (desk_of areas.old)).after }
+    ensures areas { desk_of areas.new ≡ areas_after call.entry (model L.Link.means C.Carrier.means E.Encoding.means session.old) (desk_of areas.old) }
+    ensures same { SameAreas areas.old areas.new }
 {
-    let r = call.lent.reply.min(reply.len());
-    let w = call.lent.wide.min(wide.len());
-    let n = call.lent.narrow.min(narrow.len());
+    let r = call.lent.reply.min(areas.reply.len());
+    let w = call.lent.wide.min(areas.wide.len());
+    let n = call.lent.narrow.min(areas.narrow.len());
     put_to(
         session,
         call.ask,
-        &mut reply[0..r],
-        &mut wide[0..w],
-        &mut narrow[0..n],
+        &mut areas.reply[0..r],
+        &mut areas.wide[0..w],
+        &mut areas.narrow[0..n],
     )
 }
 
@@ -85,20 +78,19 @@ pub fn run<L: Link, C: Carrier, E: Encoding>(
     carrier: C,
     encoding: E,
     settings: Settings,
-    calls: &[Call<'_>],
-    reply: &mut [u8],
-    wide: &mut [u8],
-    narrow: &mut [u8],
+    calls: &[Call<&[u8]>],
+    areas: &mut Areas<'_>,
     rows: &mut [Row],
 ) -> Session<L, C, E>
-    ensures after { model L.Link.means C.Carrier.means E.Encoding.means result ≡ after_all (fresh settings (L.Link.means link) (C.Carrier.means carrier) (E.Encoding.means encoding)) (desk reply.old wide.old narrow.old) calls.now }
-    ensures areas { desk reply.new wide.new narrow.new ≡ areas_all (fresh settings (L.Link.means link) (C.Carrier.means carrier) (E.Encoding.means encoding)) (desk reply.old wide.old narrow.old) calls.now }
-    ensures rows { rows.new ≡ noted (rows_of (seen_all (fresh settings (L.Link.means link) (C.Carrier.means carrier) (E.Encoding.means encoding)) (desk reply.old wide.old narrow.old) calls.now)) rows.old }
-    ensures lawful { Lawful (start_of settings (L.Link.means link) (C.Carrier.means carrier) (E.Encoding.means encoding)) (seen_all (fresh settings (L.Link.means link) (C.Carrier.means carrier) (E.Encoding.means encoding)) (desk reply.old wide.old narrow.old) calls.now) }
+    ensures after { model L.Link.means C.Carrier.means E.Encoding.means result ≡ after_all (fresh settings (L.Link.means link) (C.Carrier.means carrier) (E.Encoding.means encoding)) (desk_of areas.old) calls.now }
+    ensures areas { desk_of areas.new ≡ areas_all (fresh settings (L.Link.means link) (C.Carrier.means carrier) (E.Encoding.means encoding)) (desk_of areas.old) calls.now }
+    ensures same { SameAreas areas.old areas.new }
+    ensures rows { rows.new ≡ noted (rows_of (seen_all (fresh settings (L.Link.means link) (C.Carrier.means carrier) (E.Encoding.means encoding)) (desk_of areas.old) calls.now)) rows.old }
+    ensures lawful { Lawful (start_of settings (L.Link.means link) (C.Carrier.means carrier) (E.Encoding.means encoding)) (seen_all (fresh settings (L.Link.means link) (C.Carrier.means carrier) (E.Encoding.means encoding)) (desk_of areas.old) calls.now) }
 {
     let mut session = Session::new(link, carrier, encoding, settings);
     for (i, call) in calls.iter().enumerate() {
-        let answer = make(&mut session, *call, reply, wide, narrow);
+        let answer = make(&mut session, *call, areas);
         let row = Row {
             answer,
             kept: session.record(),

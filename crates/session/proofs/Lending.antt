@@ -1,0 +1,25 @@
+-- Areas that serve one piece of a call serve the next. Assumes nothing.
+use Rattle.std.proofs.Common.{◌≡◌, ℕ, refl, ◌∙◌, arith}
+use Rattle.session.specs.declared.areas.Areas.{Areas}
+use Rattle.session.specs.Areas.{SameAreas, Serve}
+
+pub still_serve : (n k : ℕ) (a b : Areas) → k ≡ n → SameAreas a b → Serve n a → Serve k b
+still_serve n k a b is same serve = record {
+  reply = omega (arith, is, same.reply_length, serve.reply);
+  wide = omega (arith, same.wide_length, serve.wide);
+  narrow = omega (arith, same.narrow_length, serve.narrow);
+}
+
+-- areas are the same before anything is done, and after one thing and then another
+pub same_first : (a : Areas) → SameAreas a a
+same_first a = record { reply = refl; wide = refl; narrow = refl; reply_length = refl; wide_length = refl; narrow_length = refl }
+
+pub same_then : (a b c : Areas) → SameAreas a b → SameAreas b c → SameAreas a c
+same_then a b c p q = record {
+  reply = q.reply ∙ p.reply;
+  wide = q.wide ∙ p.wide;
+  narrow = q.narrow ∙ p.narrow;
+  reply_length = q.reply_length ∙ p.reply_length;
+  wide_length = q.wide_length ∙ p.wide_length;
+  narrow_length = q.narrow_length ∙ p.narrow_length;
+}

@@ -1,0 +1,23 @@
+// The areas that a call is lent.
+ghost use Rattle.std.specs.Prelude.{◌≡◌};
+ghost use Rattle.session.specs.Areas.{desk_of, SameAreas};
+ghost use Rattle.session.specs.Outcome.{zeros};
+
+// One for replies, and two to work in. They may be of any length: a call refuses those that are too short.
+#[derive(Drop)]
+pub struct Areas<'a> {
+    pub reply: &'a mut [u8],
+    pub wide: &'a mut [u8],
+    pub narrow: &'a mut [u8],
+}
+
+impl Areas<'_> {
+    // The work areas may have held a password, so each call that used them leaves them all zero.
+    pub(crate) fn wipe(&mut self)
+        ensures desk { desk_of self.new ≡ record { reply = self.old.reply.now; wide = zeros self.old.wide.now; narrow = zeros self.old.narrow.now } }
+        ensures same { SameAreas self.old self.new }
+    {
+        self.wide.fill(0);
+        self.narrow.fill(0);
+    }
+}
