@@ -1,5 +1,5 @@
 -- The law of the states, by cases. Assumes nothing.
-use Rattle.std.proofs.Common.{◌≡◌, ℕ, ◌⊎◌, List, [], ◌∷◌, ◌++◌, Some, None, Ok, Err, Option, Result, refl, ap, inl, inr, arith}
+use Rattle.std.proofs.Common.{◌≡◌, ◌⊎◌, List, [], ◌∷◌, ◌++◌, Some, None, Ok, Err, Option, Result, refl, ap, inl, inr}
 use Rattle.carrier.specs.declared.address.SocketAddr.{SocketAddr}
 use Rattle.carrier.specs.declared.carrier.CarrierState.{CarrierState}
 use Rattle.carrier.specs.declared.carrier.CarrierState.TheVariants.{Closed, Listening, Holding, Standing}
@@ -18,17 +18,17 @@ same Holding h = absurd (h refl)
 same Standing h = refl
 
 after_listen_stands : (r : Result SocketAddr CarrierRefusal) → or_closed Listening r ≡ Standing → ⊥
-after_listen_stands (Ok a) e = let z : ◌≡◌ {A = ℕ} 0 1 = cc in omega arith
-after_listen_stands (Err x) e = let z : ◌≡◌ {A = ℕ} 0 1 = cc in omega arith
+after_listen_stands (Ok a) e = cc
+after_listen_stands (Err x) e = cc
 
 after_caller_stands : (r : Result (Option SocketAddr) CarrierRefusal) → after_caller r ≡ Standing → ⊥
-after_caller_stands (Ok (Some a)) e = let z : ◌≡◌ {A = ℕ} 0 1 = cc in omega arith
-after_caller_stands (Ok None) e = let z : ◌≡◌ {A = ℕ} 0 1 = cc in omega arith
-after_caller_stands (Err x) e = let z : ◌≡◌ {A = ℕ} 0 1 = cc in omega arith
+after_caller_stands (Ok (Some a)) e = cc
+after_caller_stands (Ok None) e = cc
+after_caller_stands (Err x) e = cc
 
 keep_stands : (s : CarrierState) → kept s ≡ Standing → Stands keep s
-keep_stands Closed e = absurd (let z : ◌≡◌ {A = ℕ} 0 1 = cc in omega arith)
-keep_stands Listening e = absurd (let z : ◌≡◌ {A = ℕ} 0 1 = cc in omega arith)
+keep_stands Closed e = cc
+keep_stands Listening e = cc
 keep_stands Holding e = by_keep
 keep_stands Standing e = as_before
 
@@ -37,7 +37,7 @@ standing listen d e = absurd (after_listen_stands (listen_of d).answer e)
 standing (dial to) d e = by_dial to d.state
 standing caller d e = absurd (after_caller_stands (caller_of d).answer e)
 standing keep d e = keep_stands d.state e
-standing close d e = absurd (let z : ◌≡◌ {A = ℕ} 0 1 = cc in omega arith)
+standing close d e = cc
 
 answering : (ms : List Move) (d : Deck) (earlier : List Ask) (a : Ask) → (run ms d).coming earlier a ≡ d.coming (asks ms ++ earlier) a
 answering [] d earlier a = refl

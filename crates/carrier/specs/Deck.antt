@@ -1,10 +1,17 @@
 -- What a carrier means: what it will tell at any asks in turn, and its state; and what each of its methods answers and
 -- leaves. Assumes nothing.
-use Rattle.std.specs.Prelude.{Bool, true, false, cond, List, [], ◌∷◌, Some, None, Ok, Err, Option, Result}
+use Rattle.std.specs.Prelude.{Bool, true, false, cond, List, [], ◌∷◌, Some, None, Ok, Err, Option, Result, ℕ, codes}
 use Rattle.carrier.specs.declared.address.SocketAddr.{SocketAddr}
 use Rattle.carrier.specs.declared.carrier.CarrierState.{CarrierState}
 use Rattle.carrier.specs.declared.carrier.CarrierState.TheVariants.{Closed, Listening, Holding, Standing}
 use Rattle.carrier.specs.declared.carrier.CarrierRefusal.{CarrierRefusal}
+
+-- The name of a state.
+abbrev pub state_name : CarrierState → List ℕ
+state_name Closed = codes "closed"
+state_name Listening = codes "listening"
+state_name Holding = codes "holding"
+state_name Standing = codes "standing"
 
 -- What a carrier can be asked: to listen, to dial an address, or for a caller.
 pub data Ask : Type 0 where
@@ -41,6 +48,7 @@ in_state s d = record { coming = d.coming; state = s }
 abbrev pub past : Ask → CarrierState → Deck → Deck
 past a s d = record { coming = λ earlier. d.coming (a ∷ earlier); state = s }
 
+-- The only refusal.
 abbrev pub refused : CarrierRefusal
 refused = record {}
 
@@ -89,6 +97,7 @@ awaits Listening = true
 awaits Holding = true
 awaits Standing = false
 
+-- What a carrier in a state answers, where it would tell something.
 abbrev pub called : CarrierState → Told → Result (Option SocketAddr) CarrierRefusal
 called s t = cond (awaits s) (came t) (Err refused)
 
@@ -112,8 +121,10 @@ kept Listening = Listening
 kept Holding = Standing
 kept Standing = Standing
 
+-- The carrier after a keep, which puts no ask.
 abbrev pub keep_of : Deck → Deck
 keep_of d = in_state (kept d.state) d
 
+-- The carrier after a close, which puts none either.
 abbrev pub close_of : Deck → Deck
 close_of d = in_state Closed d

@@ -13,7 +13,7 @@ pub data Move : Type 0 where
   keep : Move
   close : Move
 
--- The carrier after a move, and after several in turn.
+-- The carrier after a move.
 abbrev pub moved : Move → Deck → Deck
 moved listen d = (listen_of d).after
 moved (dial to) d = (dial_of to d).after
@@ -21,6 +21,7 @@ moved caller d = (caller_of d).after
 moved keep d = keep_of d
 moved close d = close_of d
 
+-- The carrier after several moves in turn.
 abbrev pub run : List Move → Deck → Deck
 run [] d = d
 run (m ∷ ms) d = run ms (moved m d)
@@ -40,6 +41,7 @@ pub data Stands : Move → CarrierState → Type 0 where
   by_keep : Stands keep Holding
   as_before : Stands keep Standing
 
+-- The law of the states, and of the answers over any run.
 pub record States : Type 0 where
   -- after listen it listens, or refused and is closed
   pub listens : (d : Deck) (a : SocketAddr) → (listen_of d).answer ≡ Ok a → (listen_of d).after.state ≡ Listening

@@ -1,5 +1,5 @@
 -- What a written script of answers means as a carrier. Assumes nothing.
-use Rattle.std.specs.Prelude.{List, [], ◌∷◌, drop}
+use Rattle.std.specs.Prelude.{List, [], ◌∷◌}
 use Rattle.carrier.specs.declared.carrier.CarrierState.{CarrierState}
 use Rattle.carrier.specs.declared.script.Entry.{Entry}
 use Rattle.carrier.specs.declared.script.Entry.TheVariants.{Listens, Dials, Calls, NoneYet, Refuses}
@@ -34,14 +34,15 @@ entry_after (_ ∷ es) (_ ∷ earlier) = entry_after es earlier
 abbrev pub plays : List Entry → CarrierState → Deck
 plays es s = record { coming = λ earlier. told_at (entry_after es earlier); state = s }
 
--- The entries that a script has still to play: those from its place on.
+-- The entries that a script has still to play.
 abbrev pub to_play : Script → List Entry
-to_play s = drop s.place s.entries.now
+to_play s = s.entries.now
 
--- The next entry, and those after it; at the end a refusal, and nothing is used up.
+-- The next entry; at the end a refusal, and nothing is used up.
 abbrev pub next_entry : List Entry → Entry
 next_entry es = entry_after es []
 
+-- The entries after the next one.
 abbrev pub later_entries : List Entry → List Entry
 later_entries [] = []
 later_entries (_ ∷ es) = es

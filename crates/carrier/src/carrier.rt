@@ -1,8 +1,9 @@
 // What a carrier of data connections is.
-ghost use Rattle.std.specs.Prelude.{◌≡◌};
-ghost use Rattle.carrier.specs.Deck.{Deck, awaits, kept, listen_of, dial_of, caller_of, keep_of, close_of};
+ghost use Rattle.std.specs.Prelude.{◌≡◌, Some};
+ghost use Rattle.carrier.specs.Deck.{Deck, awaits, kept, state_name, listen_of, dial_of, caller_of, keep_of, close_of};
 
 use crate::address::SocketAddr;
+use std::fmt;
 
 // Closed; listening for a caller; holding a caller that is not kept yet; or standing, with a data connection made.
 #[derive(Clone, Copy, PartialEq, Eq, Debug)]
@@ -18,10 +19,7 @@ impl CarrierState {
     pub fn awaits_caller(self) -> bool
         ensures { result ≡ awaits self }
     {
-        match self {
-            CarrierState::Listening | CarrierState::Holding => true,
-            CarrierState::Closed | CarrierState::Standing => false,
-        }
+        matches!(self, CarrierState::Listening | CarrierState::Holding)
     }
 
     // A caller that is held stands; other states stay.
@@ -30,8 +28,22 @@ impl CarrierState {
     {
         match self {
             CarrierState::Holding => CarrierState::Standing,
-            CarrierState::Closed | CarrierState::Listening | CarrierState::Standing => self,
+            _ => self,
         }
+    }
+}
+
+// Its name, for people.
+impl fmt::Display for CarrierState {
+    ghost output = { λ state. Some (state_name state) };
+
+    fn fmt<W: fmt::Write>(&self, f: &mut fmt::Formatter<W>) -> fmt::Result {
+        f.write_str(match self {
+            CarrierState::Closed => "closed",
+            CarrierState::Listening => "listening",
+            CarrierState::Holding => "holding",
+            CarrierState::Standing => "standing",
+        })
     }
 }
 

@@ -5,7 +5,7 @@ ghost use Rattle.carrier.specs.Diallers.{dials};
 use crate::address::SocketAddr;
 use crate::carrier::{Carrier, CarrierRefusal, CarrierState};
 
-// Since it neither listens nor holds, whether it stands is all its state.
+// It neither listens nor holds, so whether it stands is all its state: a `CarrierState` would have two cases that never are.
 #[derive(Drop)]
 pub struct Dialler {
     standing: bool,

@@ -7,7 +7,7 @@ use crate::address::SocketAddr;
 use crate::carrier::{Carrier, CarrierRefusal, CarrierState};
 
 // The answer to one ask. One that does not fit the ask refuses it.
-#[derive(Clone, Copy)]
+#[derive(Clone, Copy, PartialEq, Eq, Debug)]
 pub enum Entry {
     Listens(SocketAddr),
     Dials,
@@ -16,11 +16,11 @@ pub enum Entry {
     Refuses,
 }
 
-// Each ask uses up an entry, whatever it answers; at the script's end every ask is refused.
+// Each ask uses up an entry, whatever it answers; at the script's end every ask is refused. Of the entries those are kept
+// that are still to play.
 #[derive(Drop)]
 pub struct Script<'a> {
     entries: &'a [Entry],
-    place: usize,
     state: CarrierState,
 }
 
@@ -32,25 +32,22 @@ impl<'a> Script<'a> {
     {
         Script {
             entries,
-            place: 0,
             state: CarrierState::Closed,
         }
     }
 }
 
 impl Script<'_> {
-    // The entry at the place, which is then used up; at the end a refusal, and nothing is used up.
+    // The next entry, which is then used up; at the end a refusal.
     fn next_entry(&mut self) -> Entry
         ensures entry { result ≡ next_entry (to_play self.old) }
         ensures used { to_play self.new ≡ later_entries (to_play self.old) }
         ensures state { self.new.state ≡ self.old.state }
     {
-        let place = self.place;
-        if place >= self.entries.len() {
-            return Entry::Refuses;
-        }
-        self.place = place + 1;
-        self.entries[place]
+        self.entries
+            .split_off_first()
+            .copied()
+            .unwrap_or(Entry::Refuses)
     }
 
     // Closes, as every refusal does.
@@ -67,43 +64,34 @@ impl Carrier for Script<'_> {
     ghost means = { λ s. plays (to_play s) s.state };
 
     fn listen(&mut self) -> Result<SocketAddr, CarrierRefusal> {
-        match self.next_entry() {
-            Entry::Listens(address) => {
-                self.state = CarrierState::Listening;
-                Ok(address)
-            }
-            Entry::Dials | Entry::Calls(_) | Entry::NoneYet | Entry::Refuses => Err(self.refuse()),
-        }
+        let Entry::Listens(address) = self.next_entry() else {
+            return Err(self.refuse());
+        };
+        self.state = CarrierState::Listening;
+        Ok(address)
     }
 
     // A script answers the same whatever address is dialled.
     fn dial(&mut self, _to: SocketAddr) -> Result<(), CarrierRefusal> {
-        match self.next_entry() {
-            Entry::Dials => {
-                self.state = CarrierState::Standing;
-                Ok(())
-            }
-            Entry::Listens(_) | Entry::Calls(_) | Entry::NoneYet | Entry::Refuses => Err(
-                self.refuse(),
-            ),
+        if self.next_entry() != Entry::Dials {
+            return Err(self.refuse());
         }
+        self.state = CarrierState::Standing;
+        Ok(())
     }
 
     fn caller(&mut self) -> Result<Option<SocketAddr>, CarrierRefusal> {
-        let entry = self.next_entry();
-        if !self.state.awaits_caller() {
-            return Err(self.refuse());
-        }
-        match entry {
-            Entry::Calls(address) => {
+        let awaits = self.state.awaits_caller();
+        match self.next_entry() {
+            Entry::Calls(address) if awaits => {
                 self.state = CarrierState::Holding;
                 Ok(Some(address))
             }
-            Entry::NoneYet => {
+            Entry::NoneYet if awaits => {
                 self.state = CarrierState::Listening;
                 Ok(None)
             }
-            Entry::Listens(_) | Entry::Dials | Entry::Refuses => Err(self.refuse()),
+            _ => Err(self.refuse()),
         }
     }
 

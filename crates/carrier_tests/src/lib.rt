@@ -6,6 +6,7 @@ mod tests {
     use carrier::{
         Carrier, CarrierRefusal, CarrierState, Dialler, Entry, IpAddr, Script, SocketAddr,
     };
+    use std::alloc::AllocError;
 
     const HERE: SocketAddr = SocketAddr {
         ip: IpAddr::V4([10, 0, 0, 2]),
@@ -73,6 +74,28 @@ mod tests {
         let mut script = Script::new(&entries);
         assert!(rt; script.caller() == Err(CarrierRefusal));
         assert!(rt; script.listen() == Ok(HERE));
+    }
+
+    #[test]
+    fn states_by_name(rt: HostRuntime) -> Result<(), AllocError> {
+        let alloc = rt.alloc();
+        assert_eq!(rt;
+            format!(in alloc; "{}", CarrierState::Closed)?.as_str(),
+            "closed"
+        );
+        assert_eq!(rt;
+            format!(in alloc; "{}", CarrierState::Listening)?.as_str(),
+            "listening"
+        );
+        assert_eq!(rt;
+            format!(in alloc; "{}", CarrierState::Holding)?.as_str(),
+            "holding"
+        );
+        assert_eq!(rt;
+            format!(in alloc; "{}", CarrierState::Standing)?.as_str(),
+            "standing"
+        );
+        Ok(())
     }
 
     #[test]

@@ -24,6 +24,7 @@ sending bytes w = record { sent = w.sent ++ bytes; room = w.room - length bytes;
 abbrev pub put_of : List ℕ → Wire → Wire
 put_of bytes w = cond (fits bytes w) (sending bytes w) w
 
+-- the refusal of a link without room
 abbrev pub full : FullLink
 full = record {}
 
@@ -39,6 +40,7 @@ past k w = record { sent = w.sent; room = w.room; coming = drop k w.coming; endi
 abbrev pub leaving : List ℕ → Wire → Wire
 leaving bytes w = record { sent = w.sent; room = w.room; coming = bytes; ending = w.ending }
 
+-- the refusal of a link that broke
 abbrev pub broken_link : BrokenLink
 broken_link = record {}
 
@@ -71,5 +73,6 @@ first [] Closed = Ok None
 first [] Broken = Err broken_link
 first (b ∷ _) _ = Ok (Some b)
 
+-- what a read of one byte answers, by the link
 abbrev pub next_byte : Wire → Result (Option ℕ) BrokenLink
 next_byte w = first w.coming w.ending

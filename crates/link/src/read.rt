@@ -12,8 +12,5 @@ pub fn read_byte<L: Link>(link: &mut L) -> Result<Option<u8>, BrokenLink>
 {
     let mut one = [0u8; 1];
     let count = link.pull(&mut one)?;
-    if count == 0 {
-        return Ok(None);
-    }
-    Ok(Some(one[0]))
+    Ok((count > 0).then_some(one[0]))
 }

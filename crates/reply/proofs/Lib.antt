@@ -1,5 +1,4 @@
 pub mod Reading
 pub mod Replies
 pub mod Grammars
-pub mod Expected
 pub mod Locality

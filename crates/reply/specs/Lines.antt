@@ -1,5 +1,6 @@
 -- The lines of a reply (RFC 959, section 4.2; RFC 2389, section 3.2). Assumes nothing.
-use Rattle.std.specs.Prelude.{ℕ, ◌+◌, ◌-◌, ◌*◌, Bool, false, cond, ◌&&◌, ◌||◌, List, [], ◌∷◌, Some, None, Option, ◌==◌}
+use Rattle.std.specs.Prelude.{ℕ, ◌+◌, ◌-◌, ◌*◌, Bool, false, cond, ◌&&◌, ◌||◌, List, [], ◌∷◌, Some, None, Option, ◌==◌, nat_eq, codes}
+use Rattle.std.specs.List.{starts_with}
 use Rattle.text.specs.Ascii.{digit}
 use Rattle.reply.specs.declared.reply.Rule.{Rule}
 use Rattle.reply.specs.declared.reply.Rule.TheVariants.{Usual, Feat}
@@ -31,21 +32,13 @@ begun (_ ∷ _ ∷ _ ∷ []) = false
 begun (_ ∷ _ ∷ _ ∷ _ ∷ []) = false
 begun (a ∷ b ∷ c ∷ d ∷ _ ∷ _) = digit a && (digit b && (digit c && (d == 32 || d == 45)))
 
--- whether a line begins with 2, 1, 1 and a given byte
-abbrev pub begins_211 : ℕ → List ℕ → Bool
-begins_211 e [] = false
-begins_211 e (_ ∷ []) = false
-begins_211 e (_ ∷ _ ∷ []) = false
-begins_211 e (_ ∷ _ ∷ _ ∷ []) = false
-begins_211 e (a ∷ b ∷ c ∷ d ∷ _) = a == 50 && (b == 49 && (c == 49 && d == e))
-
--- whether a first line opens a list of features: it begins `211-`
+-- whether a first line opens a list of features
 abbrev pub opens_features : List ℕ → Bool
-opens_features l = begins_211 45 l
+opens_features l = starts_with nat_eq l (codes "211-")
 
--- the code of a line that closes a list of features: it begins `211 `
+-- the code of a line that closes a list of features
 abbrev pub closing : List ℕ → Option ℕ
-closing l = cond (begins_211 32 l) (Some 211) None
+closing l = cond (starts_with nat_eq l (codes "211 ")) (Some 211) None
 
 -- which line is the last: a reply to FEAT that begins `211-` ends with the first line that begins `211 `, any other reply
 -- with the first line that decides

@@ -31,9 +31,9 @@ pub enum Judged {
 pub fn deciding_code(line: &[u8]) -> Option<u16>
     ensures { result ≡ deciding line.now }
 {
-    match line {
-        [a, b, c, b' ', ..] if is_digit(*a) && is_digit(*b) && is_digit(*c) => Some(
-            (*a - b'0') as u16 * 100 + (*b - b'0') as u16 * 10 + (*c - b'0') as u16,
+    match *line {
+        [a, b, c, b' ', ..] if is_digit(a) && is_digit(b) && is_digit(c) => Some(
+            u16::from(a - b'0') * 100 + u16::from(b - b'0') * 10 + u16::from(c - b'0'),
         ),
         _ => None,
     }
@@ -43,30 +43,21 @@ pub fn deciding_code(line: &[u8]) -> Option<u16>
 pub fn well_begun(line: &[u8]) -> bool
     ensures { result ≡ begun line.now }
 {
-    match line {
-        [a, b, c, b' ' | b'-', _, ..] => is_digit(*a) && is_digit(*b) && is_digit(*c),
-        _ => false,
-    }
+    matches!(*line, [a, b, c, b' ' | b'-', _, ..] if is_digit(a) && is_digit(b) && is_digit(c))
 }
 
 // Whether a first line opens a list of features.
 fn opens_features(line: &[u8]) -> bool
     ensures { result ≡ opens_features line.now }
 {
-    match line {
-        [b'2', b'1', b'1', b'-', ..] => true,
-        _ => false,
-    }
+    line.starts_with(b"211-")
 }
 
 // The code of a line that closes a list of features.
 fn closing_code(line: &[u8]) -> Option<u16>
     ensures { result ≡ closing line.now }
 {
-    match line {
-        [b'2', b'1', b'1', b' ', ..] => Some(211),
-        _ => None,
-    }
+    line.starts_with(b"211 ").then_some(211)
 }
 
 // Which line will be the last, by the rule and the first line.
@@ -74,14 +65,8 @@ fn last_of(rule: Rule, first: &[u8]) -> Last
     ensures { result ≡ last_of rule first.now }
 {
     match rule {
-        Rule::Usual => Last::Deciding,
-        Rule::Feat => {
-            if opens_features(first) {
-                Last::Features
-            } else {
-                Last::Deciding
-            }
-        }
+        Rule::Feat if opens_features(first) => Last::Features,
+        Rule::Usual | Rule::Feat => Last::Deciding,
     }
 }
 

@@ -4,38 +4,21 @@ ghost use Rattle.reply.specs.Statuses.{status_code, expects, preliminary};
 
 #[derive(Clone, Copy, PartialEq, Eq, Debug)]
 pub enum Status {
-    // 200
-    CommandOk,
-    // 220
-    Ready,
-    // 221
-    Closing,
-    // 230
-    LoggedIn,
-    // 250
-    RequestedFileActionOk,
-    // 257
-    PathCreated,
-    // 331
-    NeedPassword,
-    // 350
-    RequestFilePending,
+    CommandOk = 200,
+    Ready = 220,
+    Closing = 221,
+    LoggedIn = 230,
+    RequestedFileActionOk = 250,
+    PathCreated = 257,
+    NeedPassword = 331,
+    RequestFilePending = 350,
 }
 
 impl Status {
     pub fn code(self) -> u16
         ensures { result ≡ status_code self }
     {
-        match self {
-            Status::CommandOk => 200,
-            Status::Ready => 220,
-            Status::Closing => 221,
-            Status::LoggedIn => 230,
-            Status::RequestedFileActionOk => 250,
-            Status::PathCreated => 257,
-            Status::NeedPassword => 331,
-            Status::RequestFilePending => 350,
-        }
+        self as u16
     }
 }
 
@@ -43,17 +26,12 @@ impl Status {
 pub fn is_expected(expected: &[Status], code: u16) -> bool
     ensures { result ≡ expects expected.now code }
 {
-    for status in expected {
-        if status.code() == code {
-            return true;
-        }
-    }
-    false
+    expected.iter().any(|status| status.code() == code)
 }
 
 // A code from 100 to 199 only announces another reply.
 pub fn is_preliminary(code: u16) -> bool
     ensures { result ≡ preliminary code }
 {
-    code >= 100 && code <= 199
+    matches!(code, 100..=199)
 }
