@@ -1,12 +1,8 @@
 -- Digits read one after another from the left. Assumes nothing.
-use Rattle.std.proofs.Common.{◌≡◌, ℕ, ◌+◌, ◌-◌, ◌*◌, ◌^◌, ◌<◌, ◌≤◌, false, cond, List, [], ◌∷◌, length, get_or, drop, Some, None, sym, arith}
+use Rattle.std.proofs.Common.{◌≡◌, ℕ, ◌+◌, ◌-◌, ◌*◌, ◌^◌, ◌<◌, ◌≤◌, List, [], ◌∷◌, length, get_or, drop, Some, None, sym, arith}
 use Rattle.std.proofs.lemmas.List.{at_drop_more}
 use Rattle.std.proofs.lemmas.Bool.{le-ltb, lt-ltb}
-use Rattle.script.specs.Numbers.{digit, all_digits, value_after, below_2^64}
-
-pub all_digits_more : (w : List ℕ) (i : ℕ) → i < length w
-    → all_digits (drop i w) ≡ cond (digit (get_or w i 0)) (all_digits (drop (i + 1) w)) false
-all_digits_more w i h = at_drop_more all_digits w i 0 h
+use Rattle.script.specs.Numbers.{value_after, below_2^64}
 
 pub value_more : (n : ℕ) (w : List ℕ) (i : ℕ) → i < length w
     → value_after n (drop i w) ≡ value_after (n * 10 + (get_or w i 0 - 48)) (drop (i + 1) w)

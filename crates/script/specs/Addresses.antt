@@ -1,16 +1,15 @@
 -- What the parts of an address say. Assumes nothing.
-use Rattle.std.specs.Prelude.{ℕ, ◌+◌, ◌*◌, cond, List, [], ◌∷◌, is_some, Some, None, Option, nat_le}
+use Rattle.std.specs.Prelude.{ℕ, ◌+◌, ◌*◌, cond, List, [], ◌∷◌, is_some, Some, None, Option, Ok, Err, Result, nat_le}
 use Rattle.script.specs.Cuts.{split_at}
 use Rattle.script.specs.Numbers.{numeral_of, hex_pair_of}
 use Rattle.carrier.specs.declared.address.IpAddr.{IpAddr}
 use Rattle.carrier.specs.declared.address.IpAddr.TheVariants.{V4, V6}
-use Rattle.script.specs.declared.number.Numeral.{Numeral}
-use Rattle.script.specs.declared.number.Numeral.TheVariants.{Value, TooLarge, NotANumber}
+use Rattle.script.specs.declared.number.NumeralError.{NumeralError}
 
-abbrev pub octet_by : Numeral → Option ℕ
-octet_by (Value n) = cond (nat_le n 255) (Some n) None
-octet_by TooLarge = None
-octet_by NotANumber = None
+-- A number up to 255, and nothing of another.
+abbrev pub octet_by : Result ℕ NumeralError → Option ℕ
+octet_by (Ok n) = cond (nat_le n 255) (Some n) None
+octet_by (Err e) = None
 
 -- A number of an IPv4 address: at most 255.
 abbrev pub octet_of : List ℕ → Option ℕ
@@ -38,13 +37,17 @@ abbrev pub bind : {A B : Type 0} → Option A → (A → Option B) → Option B
 bind None f = None
 bind (Some x) f = f x
 
+-- The part before the first such byte, and what follows the byte.
+abbrev pub part_before : {A : Type 0} → ℕ → (List ℕ → Option A) → List ℕ → Option (A × List ℕ)
+part_before b part_of cs = bind (split_at b cs) (λ p. bind (part_of p.0) (λ n. Some (n, p.1)))
+
 -- The number before the first dot, and what follows the dot.
 abbrev pub octet_before_dot : List ℕ → Option (ℕ × List ℕ)
-octet_before_dot cs = bind (split_at 46 cs) (λ p. bind (octet_of p.0) (λ n. Some (n, p.1)))
+octet_before_dot cs = part_before 46 octet_of cs
 
 -- The group before the first colon, and what follows the colon.
 abbrev pub group_before_colon : List ℕ → Option (ℕ × List ℕ)
-group_before_colon cs = bind (split_at 58 cs) (λ p. bind (group_of p.0) (λ n. Some (n, p.1)))
+group_before_colon cs = part_before 58 group_of cs
 
 -- Four numbers up to 255 with dots between them.
 abbrev pub v4_of : List ℕ → Option IpAddr

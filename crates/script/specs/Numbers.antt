@@ -1,20 +1,18 @@
 -- What a number's text says. Assumes nothing.
-use Rattle.std.specs.Prelude.{ℕ, ◌+◌, ◌-◌, ◌*◌, ◌^◌, Bool, true, false, cond, List, [], ◌∷◌, Some, None, Option, nat_le, nat_lt}
-use Rattle.script.specs.declared.number.Numeral.{Numeral}
-use Rattle.script.specs.declared.number.Numeral.TheVariants.{Value, TooLarge, NotANumber}
+use Rattle.std.specs.Prelude.{ℕ, ◌+◌, ◌-◌, ◌*◌, ◌^◌, Bool, false, cond, List, [], ◌∷◌, Some, None, Option, Ok, Err, Result, nat_le, nat_lt}
+use Rattle.std.specs.Char.{is_ascii_digit}
+use Rattle.std.specs.List.{list_all}
+use Rattle.script.specs.declared.number.NumeralError.{NumeralError}
+use Rattle.script.specs.declared.number.NumeralError.TheVariants.{TooLarge, NotANumber}
 
 -- Whether a number lies from one to another, both among them.
 abbrev pub within : ℕ → ℕ → ℕ → Bool
 within low high n = cond (nat_le low n) (nat_le n high) false
 
--- Whether a byte is a decimal digit.
-abbrev pub digit : ℕ → Bool
-digit c = within 48 57 c
-
 -- The value of a hexadecimal digit, its letters small or capital.
 abbrev pub hex_digit_of : ℕ → Option ℕ
 hex_digit_of c =
-    cond (digit c) (Some (c - 48))
+    cond (is_ascii_digit c) (Some (c - 48))
     (cond (within 97 102 c) (Some (c - 97 + 10)) (cond (within 65 70 c) (Some (c - 65 + 10)) None))
 
 -- Two digits, if both are there, are one number.
@@ -29,8 +27,7 @@ hex_pair_of high low = pair (hex_digit_of high) (hex_digit_of low)
 
 -- Whether each byte is a decimal digit.
 abbrev pub all_digits : List ℕ → Bool
-all_digits [] = true
-all_digits (c ∷ cs) = cond (digit c) (all_digits cs) false
+all_digits cs = list_all is_ascii_digit cs
 
 -- The number that digits write, from the left, behind a number.
 abbrev pub value_after : ℕ → List ℕ → ℕ
@@ -45,9 +42,9 @@ abbrev pub below_2^64 : ℕ → Option ℕ
 below_2^64 n = cond (nat_lt n (2 ^ 64)) (Some n) None
 
 -- What a word says where a number is due: it has a digit and nothing but digits, and then their value.
-abbrev pub numeral_of : List ℕ → Numeral
-numeral_of [] = NotANumber
+abbrev pub numeral_of : List ℕ → Result ℕ NumeralError
+numeral_of [] = Err NotANumber
 numeral_of (c ∷ cs) =
     cond (all_digits (c ∷ cs))
-    (cond (nat_lt (value_of (c ∷ cs)) (2 ^ 64)) (Value (value_of (c ∷ cs))) TooLarge)
-    NotANumber
+    (cond (nat_lt (value_of (c ∷ cs)) (2 ^ 64)) (Ok (value_of (c ∷ cs))) (Err TooLarge))
+    (Err NotANumber)

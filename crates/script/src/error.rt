@@ -1,12 +1,15 @@
 // Why a script is not played.
 ghost use Rattle.std.specs.Prelude.{◌≡◌};
+ghost use Rattle.script.specs.Quotes.{problem_of};
 ghost use Rattle.script.specs.declared.error.Problem.TheVariants.{OutOfMemory};
 
+use crate::quote::QuoteError;
 use std::alloc::{AllocError, AllocFailed};
+use std::error::Error;
 use std::fmt;
 
 // The line, from 1, and what is wrong there.
-#[derive(Clone, Copy)]
+#[derive(Clone, Copy, PartialEq, Eq, Debug)]
 pub struct ScriptError {
     pub line: usize,
     pub problem: Problem,
@@ -28,6 +31,28 @@ pub enum Problem {
     BadEscape,
     NoBlankAfterQuote,
     OutOfMemory,
+}
+
+impl Problem {
+    pub(crate) fn at(self, line: usize) -> ScriptError
+        ensures { result ≡ record { line = line; problem = self } }
+    {
+        ScriptError {
+            line,
+            problem: self,
+        }
+    }
+}
+
+impl From<QuoteError> for Problem {
+    ghost from_gives = { λ e r. r ≡ problem_of e };
+
+    fn from(error: QuoteError) -> Problem {
+        match error {
+            QuoteError::Unclosed => Problem::UnclosedQuote,
+            QuoteError::BadEscape => Problem::BadEscape,
+        }
+    }
 }
 
 impl From<AllocError> for Problem {
@@ -68,6 +93,8 @@ impl fmt::Display for Problem {
     }
 }
 
+impl Error for Problem {}
+
 impl fmt::Display for ScriptError {
     fn fmt<W: fmt::Write>(&self, f: &mut fmt::Formatter<W>) -> fmt::Result {
         let line = self.line;
@@ -75,3 +102,5 @@ impl fmt::Display for ScriptError {
         write!(f, "line {line}: {problem}")
     }
 }
+
+impl Error for ScriptError {}

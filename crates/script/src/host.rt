@@ -5,11 +5,11 @@ use carrier::{Entry, SocketAddr};
 
 pub(crate) fn read_answer(words: &mut Words) -> Result<Entry, Problem> {
     match words.name()? {
-        "listens" => Ok(Entry::Listens(read_socket(words)?)),
-        "dials" => Ok(Entry::Dials),
-        "caller" => Ok(Entry::Calls(read_socket(words)?)),
-        "none-yet" => Ok(Entry::NoneYet),
-        "refuses" => Ok(Entry::Refuses),
+        Some("listens") => Ok(Entry::Listens(read_socket(words)?)),
+        Some("dials") => Ok(Entry::Dials),
+        Some("caller") => Ok(Entry::Calls(read_socket(words)?)),
+        Some("none-yet") => Ok(Entry::NoneYet),
+        Some("refuses") => Ok(Entry::Refuses),
         _ => Err(Problem::UnknownChoice),
     }
 }
@@ -17,6 +17,6 @@ pub(crate) fn read_answer(words: &mut Words) -> Result<Entry, Problem> {
 // An address and a port.
 fn read_socket(words: &mut Words) -> Result<SocketAddr, Problem> {
     let ip = words.address()?;
-    let port = words.number(65_535)? as u16;
+    let port = words.number(u16::MAX.into())? as u16;
     Ok(SocketAddr { ip, port })
 }

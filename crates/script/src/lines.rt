@@ -1,17 +1,42 @@
 // A whole script, line by line.
-ghost use Rattle.std.specs.Prelude.{◌≡◌, ◌<◌, length};
+ghost use Rattle.std.specs.Prelude.{◌≡◌, ◌<◌, length, MatchOption};
+ghost use Rattle.std.specs.Iterator.{at_most};
 ghost use Rattle.script.specs.Cuts.{first_line, later_lines};
 
 use crate::call::{default_lengths, read_ask, read_lengths};
+use crate::choice::Named;
 use crate::cut::split_once;
 use crate::error::{Problem, ScriptError};
 use crate::host::read_answer;
-use crate::name::{CallName, call_name, setting_name};
+use crate::name::{CallName, SettingName};
 use crate::script::{Lengths, OwnedAsk, Script, Step};
 use crate::settings::Said;
 use crate::words::Words;
 use carrier::Entry;
 use std::alloc::{AllocError, Global};
+
+// The lines of a text that are left, each without its byte 10.
+#[derive(Drop)]
+struct Lines<'a> {
+    rest: &'a [u8],
+}
+
+impl<'a> Iterator for Lines<'a> {
+    type Item = &'a [u8];
+
+    ghost next_gives = { λ s r t. MatchOption r (length s.rest.now ≡ 0) (λ line. (0 < length s.rest.now) × (line.now ≡ first_line s.rest.now) × (t.rest.now ≡ later_lines s.rest.now)) };
+
+    ghost remaining = { λ s. at_most (length s.rest.now) };
+
+    fn next(&mut self) -> Option<&'a [u8]> {
+        if self.rest.is_empty() {
+            return None;
+        }
+        let (line, behind) = split_once(self.rest, b'\n').unwrap_or((self.rest, &[]));
+        self.rest = behind;
+        Some(line)
+    }
+}
 
 // What was read so far. The areas that a call is lent hang on the limit, which may be said behind it.
 #[derive(Drop)]
@@ -29,29 +54,27 @@ struct Call {
     lent: Option<Lengths>,
 }
 
-// The first line without its byte 10, and the lines behind it.
-fn cut_line(text: &[u8]) -> (&[u8], &[u8])
-    ensures line { result.0.now ≡ first_line text.now }
-    ensures rest { result.1.now ≡ later_lines text.now }
-{
-    match split_once(text, b'\n') {
-        Some((line, rest)) => (line, rest),
-        None => (text, &[]),
+impl Call {
+    // The step of a script with this limit.
+    fn step(self, limit: usize) -> Step {
+        let Call { line, ask, lent } = self;
+        Step {
+            line,
+            ask,
+            lent: lent.unwrap_or(default_lengths(limit)),
+        }
     }
 }
 
 // A line may end in CR LF as well as in LF.
 fn without_cr(line: &[u8]) -> &[u8] {
-    match line {
-        [front @ .., b'\r'] => front,
-        _ => line,
-    }
+    line.strip_suffix(b"\r").unwrap_or(line)
 }
 
 impl Draft {
     fn new(heap: Global) -> Draft {
         Draft {
-            said: Said::nothing(),
+            said: Said::default(),
             server: Vec::new(heap),
             host: Vec::new(heap),
             calls: Vec::new(heap),
@@ -59,46 +82,34 @@ impl Draft {
     }
 
     fn read_line(&mut self, heap: Global, number: usize, line: &[u8]) -> Result<(), Problem> {
-        let mut words = Words::of(line);
+        let mut words = Words::of(heap, without_cr(line));
         if words.is_over() || words.is_comment() {
             return Ok(());
         }
-        self.read_words(heap, number, &mut words)?;
+        self.read_words(number, &mut words)?;
         words.end()
     }
 
-    fn read_words(
-        &mut self,
-        heap: Global,
-        number: usize,
-        words: &mut Words,
-    ) -> Result<(), Problem> {
-        let name = words.name()?;
-        if let Some(setting) = setting_name(name) {
+    fn read_words(&mut self, number: usize, words: &mut Words) -> Result<(), Problem> {
+        let Some(name) = words.name()? else {
+            return Err(Problem::UnknownWord);
+        };
+        if let Some(setting) = SettingName::named(name) {
             return self.said.say(setting, words);
         }
-        if let Some(call) = call_name(name) {
-            return self.read_call(heap, number, call, words);
+        if let Some(call) = CallName::named(name) {
+            return self.read_call(number, call, words);
         }
         match name {
-            "server" => {
-                let bytes = words.text(heap)?;
-                self.server.extend_from_slice(bytes.as_slice())?;
-            }
+            "server" => self.server.extend_from_slice(words.text()?.as_slice())?,
             "host" => self.host.push(read_answer(words)?)?,
             _ => return Err(Problem::UnknownWord),
         }
         Ok(())
     }
 
-    fn read_call(
-        &mut self,
-        heap: Global,
-        line: usize,
-        name: CallName,
-        words: &mut Words,
-    ) -> Result<(), Problem> {
-        let ask = read_ask(heap, name, words)?;
+    fn read_call(&mut self, line: usize, name: CallName, words: &mut Words) -> Result<(), Problem> {
+        let ask = read_ask(name, words)?;
         let lent = read_lengths(words)?;
         self.calls.push(Call { line, ask, lent })?;
         Ok(())
@@ -112,12 +123,10 @@ impl Draft {
             calls,
         } = self;
         let settings = said.settings();
-        let mut steps = Vec::new(heap);
-        for call in calls {
-            let Call { line, ask, lent } = call;
-            let lent = lent.unwrap_or(default_lengths(settings.limit));
-            steps.push(Step { line, ask, lent })?;
-        }
+        let steps = calls
+            .into_iter()
+            .map(|call| call.step(settings.limit))
+            .collect(heap)?;
         Ok(Script {
             settings,
             encoding: said.encoding(),
@@ -134,25 +143,14 @@ impl Draft {
 // Reads a script; nothing comes of one that has an error.
 pub fn parse(heap: Global, text: &[u8]) -> Result<Script, ScriptError> {
     let mut draft = Draft::new(heap);
-    let mut rest = text;
     let mut number = 0;
-    'lines: while !rest.is_empty() {
-        let (line, behind) = cut_line(rest);
+    for line in (Lines { rest: text }) {
         number += 1;
-        match draft.read_line(heap, number, without_cr(line)) {
-            Ok(()) => {}
-            Err(problem) => return Err(ScriptError {
-                line: number,
-                problem,
-            }),
-        }
-        rest = behind;
+        draft
+            .read_line(heap, number, line)
+            .map_err(|problem| problem.at(number))?;
     }
-    match draft.finish(heap) {
-        Ok(script) => Ok(script),
-        Err(_) => Err(ScriptError {
-            line: number,
-            problem: Problem::OutOfMemory,
-        }),
-    }
+    draft
+        .finish(heap)
+        .map_err(|_| Problem::OutOfMemory.at(number))
 }

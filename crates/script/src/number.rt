@@ -1,20 +1,13 @@
 // Numbers as they are written: decimal digits, and the hexadecimal digits of escapes and of IPv6 groups.
-ghost use Rattle.std.specs.Prelude.{◌≡◌, Some, None};
-ghost use Rattle.script.specs.Numbers.{digit, hex_digit_of, hex_pair_of, numeral_of, all_digits, value_of, below_2^64};
+ghost use Rattle.std.specs.Prelude.{◌≡◌};
+ghost use Rattle.script.specs.Numbers.{hex_digit_of, hex_pair_of, numeral_of, all_digits, value_of, below_2^64};
 
-// What a word says where a number is due.
+// Why a word is no number below 2^64.
 #[derive(Clone, Copy, PartialEq, Eq, Debug)]
-pub(crate) enum Numeral {
-    Value(u64),
+pub(crate) enum NumeralError {
     // A number, and not below 2^64.
     TooLarge,
     NotANumber,
-}
-
-fn is_digit(byte: u8) -> bool
-    ensures { result ≡ digit byte }
-{
-    byte >= b'0' && byte <= b'9'
 }
 
 pub(crate) fn hex_digit(byte: u8) -> Option<u8>
@@ -38,27 +31,19 @@ pub(crate) fn hex_pair(high: u8, low: u8) -> Option<u8>
 }
 
 // Reads a word of decimal digits; leading zeros may stand there.
-pub(crate) fn read_number(word: &[u8]) -> Numeral
+pub(crate) fn read_number(word: &[u8]) -> Result<u64, NumeralError>
     ensures { result ≡ numeral_of word.now }
 {
     if word.is_empty() || !all_digits(word) {
-        return Numeral::NotANumber;
+        return Err(NumeralError::NotANumber);
     }
-    match small_value(word) {
-        Some(value) => Numeral::Value(value),
-        None => Numeral::TooLarge,
-    }
+    small_value(word).ok_or(NumeralError::TooLarge)
 }
 
 fn all_digits(word: &[u8]) -> bool
     ensures { result ≡ all_digits word.now }
 {
-    for byte in word {
-        if !is_digit(*byte) {
-            return false;
-        }
-    }
-    true
+    word.iter().all(|byte| byte.is_ascii_digit())
 }
 
 // The number that the digits write, if it is below 2^64. A byte below the digits counts for nothing here.

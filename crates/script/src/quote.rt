@@ -1,9 +1,10 @@
 // Texts in double quotes, with escapes for what cannot stand in a line.
-ghost use Rattle.std.specs.Prelude.{◌≡◌, ◌<◌, ◌≤◌, length, IfOk};
-ghost use Rattle.script.specs.Quotes.{letter_of, piece_by, escaped_of, piece_of, FitsIn, meaning, told, EndsIn};
+ghost use Rattle.std.specs.Prelude.{◌≡◌, ◌-◌, Ok, length, drop, IfOk, IfErr};
+ghost use Rattle.script.specs.Quotes.{letter_of, piece_by, escaped_of, piece_of, FitsIn, meaning, FailsBy};
 
+use crate::error::Problem;
 use crate::number::hex_pair;
-use std::alloc::{AllocError, Global};
+use std::alloc::Global;
 
 // What stands at the front of a quoted text.
 #[derive(Clone, Copy, PartialEq, Eq, Debug)]
@@ -12,15 +13,11 @@ pub(crate) enum Piece {
     Byte { byte: u8, length: usize },
     // The closing quote.
     Close,
-    Unclosed,
-    BadEscape,
 }
 
-// What a quoted text says.
-#[derive(Drop)]
-pub(crate) enum Quoted {
-    // Its bytes, and how many bytes it is written with, the closing quote among them.
-    Text { bytes: Vec<u8>, length: usize },
+// Why a quoted text says nothing.
+#[derive(Clone, Copy, PartialEq, Eq, Debug)]
+pub(crate) enum QuoteError {
     Unclosed,
     BadEscape,
 }
@@ -40,61 +37,51 @@ fn letter(byte: u8) -> Option<u8>
     }
 }
 
-fn written(length: usize, byte: Option<u8>) -> Piece
+fn written(length: usize, byte: Option<u8>) -> Result<Piece, QuoteError>
     ensures { result ≡ piece_by length byte }
 {
-    match byte {
-        Some(byte) => Piece::Byte { byte, length },
-        None => Piece::BadEscape,
-    }
+    let byte = byte.ok_or(QuoteError::BadEscape)?;
+    Ok(Piece::Byte { byte, length })
 }
 
 // What stands behind a backslash.
-fn escaped(text: &[u8]) -> Piece
+fn escaped(text: &[u8]) -> Result<Piece, QuoteError>
     ensures { result ≡ escaped_of text.now }
 {
     match text {
-        [] => Piece::Unclosed,
+        [] => Err(QuoteError::Unclosed),
         [b'x', high, low, ..] => written(4, hex_pair(*high, *low)),
-        [b'x', ..] => Piece::BadEscape,
+        [b'x', ..] => Err(QuoteError::BadEscape),
         [byte, ..] => written(2, letter(*byte)),
     }
 }
 
-fn front_piece(text: &[u8]) -> Piece
+fn front_piece(text: &[u8]) -> Result<Piece, QuoteError>
     ensures value { result ≡ piece_of text.now }
     ensures within { FitsIn text.now result }
 {
     match text {
-        [] => Piece::Unclosed,
-        [b'"', ..] => Piece::Close,
+        [] => Err(QuoteError::Unclosed),
+        [b'"', ..] => Ok(Piece::Close),
         [b'\\', escape @ ..] => escaped(escape),
-        [byte, ..] => Piece::Byte {
+        [byte, ..] => Ok(Piece::Byte {
             byte: *byte,
             length: 1,
-        },
+        }),
     }
 }
 
-// Reads a text behind its opening quote, up to the closing one.
-pub(crate) fn read_quoted(heap: Global, text: &[u8]) -> Result<Quoted, AllocError>
-    ensures value { IfOk result (λ q. told q ≡ meaning text.now) }
-    ensures within { IfOk result (λ q. EndsIn text.now q) }
+// Reads a text behind its opening quote, up to the closing one: its bytes, and what follows that quote.
+pub(crate) fn read_quoted<'a>(heap: Global, text: &'a [u8]) -> Result<(Vec<u8>, &'a [u8]), Problem>
+    ensures value { IfOk result (λ q. meaning text.now ≡ Ok (q.0.items, length text.now - length q.1.now)) }
+    ensures rest { IfOk result (λ q. q.1.now ≡ drop (length text.now - length q.1.now) text.now) }
+    ensures fails { IfErr result (λ p. FailsBy p (meaning text.now)) }
 {
     let mut bytes = Vec::new(heap);
-    let mut place = 0;
-    'pieces: loop {
-        match front_piece(&text[place..]) {
-            Piece::Byte { byte, length } => {
-                bytes.push(byte)?;
-                place += length;
-            }
-            Piece::Close => return Ok(Quoted::Text {
-                bytes,
-                length: place + 1,
-            }),
-            Piece::Unclosed => return Ok(Quoted::Unclosed),
-            Piece::BadEscape => return Ok(Quoted::BadEscape),
-        }
+    let mut rest = text;
+    'pieces: while let Piece::Byte { byte, length } = front_piece(rest)? {
+        bytes.push(byte)?;
+        rest = &rest[length..];
     }
+    Ok((bytes, &rest[1..]))
 }

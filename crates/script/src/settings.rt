@@ -1,9 +1,8 @@
 // The lines that are settings, each of which is said at most once.
 ghost use Rattle.std.specs.Prelude.{◌≡◌, ◌≤◌};
-ghost use Rattle.std.specs.Option.{unwrap_or};
-ghost use Rattle.script.specs.Settings.{said_once, first_said, chosen_of};
+ghost use Rattle.script.specs.Settings.{said_once, first_said};
 
-use crate::choice::{EncodingName, encoding_name, link_ending, mode, peer_rule, switch};
+use crate::choice::EncodingName;
 use crate::error::Problem;
 use crate::name::SettingName;
 use crate::words::Words;
@@ -14,8 +13,15 @@ use session::{Mode, Settings};
 // The most bytes that a link takes.
 const MOST_ROOM: u64 = 16_777_216;
 
-// What was said so far.
+// How many bytes the link takes.
 #[derive(Clone, Copy)]
+struct Room {
+    bytes: usize,
+    ghost bound: { bytes ≤ 16777216 },
+}
+
+// What was said so far.
+#[derive(Clone, Copy, Default)]
 pub(crate) struct Said {
     mode: Option<Mode>,
     nat_workaround: Option<bool>,
@@ -23,10 +29,9 @@ pub(crate) struct Said {
     peer_rule: Option<PeerRule>,
     limit: Option<usize>,
     encoding: Option<EncodingName>,
-    room: Option<usize>,
+    room: Option<Room>,
     ending: Option<Ending>,
     fill: Option<u8>,
-    ghost room_bound: { unwrap_or room 0 ≤ 16777216 },
 }
 
 // Puts a value into a place that has none yet.
@@ -41,44 +46,23 @@ fn once<T: Drop>(place: &mut Option<T>, value: T) -> Result<(), Problem>
     Ok(())
 }
 
-fn chosen<T>(choice: Option<T>) -> Result<T, Problem>
-    ensures { result ≡ chosen_of choice }
-{
-    match choice {
-        Some(value) => Ok(value),
-        None => Err(Problem::UnknownChoice),
-    }
-}
-
 impl Said {
-    pub(crate) fn nothing() -> Said {
-        Said {
-            mode: None,
-            nat_workaround: None,
-            peer: None,
-            peer_rule: None,
-            limit: None,
-            encoding: None,
-            room: None,
-            ending: None,
-            fill: None,
-        }
-    }
-
     pub(crate) fn say(&mut self, name: SettingName, words: &mut Words) -> Result<(), Problem> {
         match name {
-            SettingName::Mode => once(&mut self.mode, chosen(mode(words.name()?))?),
-            SettingName::Nat => once(&mut self.nat_workaround, chosen(switch(words.name()?))?),
+            SettingName::Mode => once(&mut self.mode, words.choice()?),
+            SettingName::Nat => once(&mut self.nat_workaround, words.choice()?),
             SettingName::Peer => once(&mut self.peer, words.address()?),
-            SettingName::Callers => once(&mut self.peer_rule, chosen(peer_rule(words.name()?))?),
+            SettingName::Callers => once(&mut self.peer_rule, words.choice()?),
             SettingName::Limit => once(&mut self.limit, words.number(u64::MAX)? as usize),
-            SettingName::Encoding => once(
-                &mut self.encoding,
-                chosen(encoding_name(words.name()?))?,
+            SettingName::Encoding => once(&mut self.encoding, words.choice()?),
+            SettingName::Room => once(
+                &mut self.room,
+                Room {
+                    bytes: words.number(MOST_ROOM)? as usize,
+                },
             ),
-            SettingName::Room => once(&mut self.room, words.number(MOST_ROOM)? as usize),
-            SettingName::Ending => once(&mut self.ending, chosen(link_ending(words.name()?))?),
-            SettingName::Fill => once(&mut self.fill, words.number(255)? as u8),
+            SettingName::Ending => once(&mut self.ending, words.choice()?),
+            SettingName::Fill => once(&mut self.fill, words.number(u8::MAX.into())? as u8),
         }
     }
 
@@ -99,7 +83,7 @@ impl Said {
     pub(crate) fn room(&self) -> usize
         ensures { result ≤ 16777216 }
     {
-        self.room.unwrap_or(65_536)
+        self.room.map_or(65_536, |room| room.bytes)
     }
 
     pub(crate) fn ending(&self) -> Ending {

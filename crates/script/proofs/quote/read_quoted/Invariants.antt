@@ -5,8 +5,11 @@ use Rattle.script.proofs.quote.read_quoted.Given as goal
 
 abbrev pub invariant-pieces : goal.invariant-pieces
 invariant-pieces l =
-    (l.place ≤ length l.text)
-    × (behind (vec_items l.bytes) l.place (meaning (drop l.place l.text)) ≡ meaning l.text)
+    record {
+      fits : length l.rest ≤ length l.text;
+      rest : l.rest ≡ drop (length l.text - length l.rest) l.text;
+      read : behind (vec_items l.bytes) (length l.text - length l.rest) (meaning l.rest) ≡ meaning l.text;
+    }
 
 abbrev pub decreases-pieces : goal.decreases-pieces
-decreases-pieces l = length l.text - l.place
+decreases-pieces l = length l.rest
