@@ -5,15 +5,6 @@ use Rattle.std.proofs.lemmas.List.{drop_more, set_at, length_push, length-append
 use Rattle.std.proofs.lemmas.Slice.{take-put_mid, drop-put_mid}
 use Rattle.text.specs.Area.{laid}
 
--- one byte more behind them
-pub laid_push : (bytes area : List ℕ) (v : ℕ) → length bytes < length area → set (laid bytes area) (length bytes) v ≡ laid (bytes ++ v ∷ []) area
-laid_push bytes area v h =
-    let n = length bytes in
-    ap (λ z. set (bytes ++ z) n v) (drop_more area n 0 h)
-    ∙ set_at bytes (get_or area n 0) (drop (n + 1) area) v n refl
-    ∙ sym (append_assoc bytes (v ∷ []) (drop (n + 1) area))
-    ∙ ap (λ k. (bytes ++ v ∷ []) ++ drop k area) (sym (length_push bytes v))
-
 -- what a loop keeps that writes some bytes: those so far stand in the area's front, and its rest is as it was
 abbrev pub SoFar : (whole rest area before : List ℕ) (end : ℕ) → Type 0
 SoFar whole rest area before end =

@@ -17,16 +17,16 @@ pub trait Pieces<'a>: Iterator<Item = &'a [u8]> + Copy {
 
 // Slices, one behind another.
 #[derive(Clone, Copy)]
-pub struct Parts<'a, 'b>(pub &'a [&'b [u8]]);
+pub struct Parts<'a>(pub &'a [&'a [u8]]);
 
-impl<'a, 'b> Iterator for Parts<'a, 'b> {
-    type Item = &'b [u8];
+impl<'a> Iterator for Parts<'a> {
+    type Item = &'a [u8];
 
     ghost next_gives = { Spells (λ s. joined s.0.now) };
 
     ghost remaining = { item_count (λ s. s.0.now) };
 
-    fn next(&mut self) -> Option<&'b [u8]> {
+    fn next(&mut self) -> Option<&'a [u8]> {
         let [first, others @ ..] = self.0 else {
             return None;
         };
@@ -35,7 +35,7 @@ impl<'a, 'b> Iterator for Parts<'a, 'b> {
     }
 }
 
-impl<'b> Pieces<'b> for Parts<'_, 'b> {
+impl<'a> Pieces<'a> for Parts<'a> {
     ghost bytes = { λ s. joined s.0.now };
 
     ghost always = { λ _. tt };
