@@ -1,13 +1,13 @@
 -- What is decoded is UTF-8, and UTF-8 is decoded to itself: the proof of the law that an encoding owes, which Rattle wants
 -- beside the definitions. Assumes nothing.
-use Rattle.std.specs.Prelude.{◌≡◌, ℕ, zero, suc, ◌-◌, ◌<◌, ◌≤◌, Bool, true, false, cond, List, [], ◌∷◌, ◌++◌, length, take, drop, Some, None, IsUtf8, refl}
+use Rattle.std.specs.Prelude.{◌≡◌, ℕ, zero, suc, ◌-◌, ◌<◌, ◌≤◌, Bool, true, false, cond, List, [], ◌∷◌, ◌++◌, length, take, drop, Some, None, is_ok, IsUtf8, refl}
 use Rattle.std.proofs.Common.{sym, ap, subst, ◌∙◌, not-suc-le-zero, arith}
 use Rattle.std.specs.List.{concat}
 use Rattle.std.proofs.lemmas.List.{length-append, take_at, drop_at}
 use Rattle.std.proofs.lemmas.Bool.{and_parts, false≢true}
 use Rattle.std.proofs.lemmas.Str.{IsUtf8-nil, IsUtf8-append}
 use Rattle.text.specs.Table.{fits, is_sequence}
-use Rattle.text.specs.Front.{front}
+use Rattle.text.specs.Front.{front, length_of}
 use Rattle.text.specs.Utf8.{utf8, all_sequences}
 use Rattle.text.proofs.Chars.{sequence_char}
 use Rattle.text.proofs.Fronts.{by_table, sequence_nil}
@@ -26,24 +26,24 @@ pub lossy-nil : lossy [] ≡ []
 unfolding lossy_past
 lossy-nil = refl
 
-front_taken : (b : ℕ) (bs : List ℕ) → (front (b ∷ bs)).length ≡ suc ((front (b ∷ bs)).length - 1)
-front_taken b bs = let some : 0 < (front (b ∷ bs)).length = (by_table (b ∷ bs)).some (omega arith) in omega arith
+front_taken : (b : ℕ) (bs : List ℕ) → length_of (front (b ∷ bs)) ≡ suc (length_of (front (b ∷ bs)) - 1)
+front_taken b bs = let some : 0 < length_of (front (b ∷ bs)) = (by_table (b ∷ bs)).some (omega arith) in omega arith
 
 -- the first piece, and the text of what follows it
-pub lossy_step : (bs : List ℕ) → 0 < length bs → lossy bs ≡ shown bs ++ lossy (drop (front bs).length bs)
+pub lossy_step : (bs : List ℕ) → 0 < length bs → lossy bs ≡ shown bs ++ lossy (drop (length_of (front bs)) bs)
 unfolding lossy_past
 lossy_step [] h = absurd (not-suc-le-zero h)
 lossy_step (b ∷ bs) h =
-    ap (λ z. shown (b ∷ bs) ++ z) (past_is ((front (b ∷ bs)).length - 1) bs ∙ ap (λ k. lossy (drop k (b ∷ bs))) (sym (front_taken b bs)))
+    ap (λ z. shown (b ∷ bs) ++ z) (past_is (length_of (front (b ∷ bs)) - 1) bs ∙ ap (λ k. lossy (drop k (b ∷ bs))) (sym (front_taken b bs)))
 
 replacement_sequence : is_sequence replacement ≡ true
 unfolding is_sequence fits
 replacement_sequence = refl
 
 shown-utf8 : (bs : List ℕ) → IsUtf8 (shown bs)
-shown-utf8 bs = go (front bs).whole refl
+shown-utf8 bs = go (is_ok (front bs)) refl
   where
-    go : (w : Bool) → (front bs).whole ≡ w → IsUtf8 (cond w (take (front bs).length bs) replacement)
+    go : (w : Bool) → is_ok (front bs) ≡ w → IsUtf8 (cond w (take (length_of (front bs)) bs) replacement)
     go true e = sequence_char _ ((by_table bs).sequence e)
     go false e = sequence_char replacement replacement_sequence
 
@@ -51,7 +51,7 @@ past-utf8 : (k : ℕ) (bs : List ℕ) → IsUtf8 (lossy_past k bs)
 unfolding lossy_past
 past-utf8 k [] = IsUtf8-nil
 past-utf8 (suc k) (b ∷ bs) = past-utf8 k bs
-past-utf8 zero (b ∷ bs) = IsUtf8-append (shown (b ∷ bs)) _ (shown-utf8 (b ∷ bs)) (past-utf8 ((front (b ∷ bs)).length - 1) bs)
+past-utf8 zero (b ∷ bs) = IsUtf8-append (shown (b ∷ bs)) _ (shown-utf8 (b ∷ bs)) (past-utf8 (length_of (front (b ∷ bs)) - 1) bs)
 
 -- a whole sequence in front is kept, whatever follows it
 kept_one : (s bs : List ℕ) → is_sequence s ≡ true → 0 < length s → lossy (s ++ bs) ≡ s ++ lossy bs
@@ -61,7 +61,7 @@ kept_one s bs e h =
     let some : 0 < length (s ++ bs) = omega arith in
     let p = (by_table (s ++ bs)).only (length s) inside (ap is_sequence (take_at s bs (length s) refl) ∙ e) in
     lossy_step (s ++ bs) some
-    ∙ ap (λ (w : Bool). cond w (take (front (s ++ bs)).length (s ++ bs)) replacement ++ lossy (drop (front (s ++ bs)).length (s ++ bs))) p.0
+    ∙ ap (λ (w : Bool). cond w (take (length_of (front (s ++ bs))) (s ++ bs)) replacement ++ lossy (drop (length_of (front (s ++ bs))) (s ++ bs))) p.0
     ∙ ap (λ k. take k (s ++ bs) ++ lossy (drop k (s ++ bs))) p.1
     ∙ ap (λ z. z ++ lossy (drop (length s) (s ++ bs))) (take_at s bs (length s) refl)
     ∙ ap (λ z. s ++ lossy z) (drop_at s bs (length s) refl)

@@ -1,6 +1,6 @@
 -- Text out of any bytes: what is not UTF-8 in them becomes U+FFFD. Assumes nothing.
-use Rattle.std.specs.Prelude.{◌≡◌, ℕ, zero, suc, ◌-◌, true, cond, List, [], ◌∷◌, ◌++◌, take}
-use Rattle.text.specs.Front.{front}
+use Rattle.std.specs.Prelude.{◌≡◌, ℕ, zero, suc, ◌-◌, true, cond, List, [], ◌∷◌, ◌++◌, take, is_ok}
+use Rattle.text.specs.Front.{front, length_of}
 use Rattle.text.specs.Utf8.{utf8}
 
 -- U+FFFD, the replacement character, in UTF-8
@@ -9,13 +9,13 @@ replacement = 0xEF ∷ 0xBF ∷ 0xBD ∷ []
 
 -- the text of what stands at the front of some bytes: a whole sequence is itself, and a broken beginning is U+FFFD
 abbrev pub shown : List ℕ → List ℕ
-shown bytes = cond (front bytes).whole (take (front bytes).length bytes) replacement
+shown bytes = cond (is_ok (front bytes)) (take (length_of (front bytes)) bytes) replacement
 
 -- the text of some bytes, the first k of which are shown already
 unfoldable pub lossy_past : ℕ → List ℕ → List ℕ
 lossy_past k [] = []
 lossy_past (suc k) (b ∷ bs) = lossy_past k bs
-lossy_past zero (b ∷ bs) = shown (b ∷ bs) ++ lossy_past ((front (b ∷ bs)).length - 1) bs
+lossy_past zero (b ∷ bs) = shown (b ∷ bs) ++ lossy_past (length_of (front (b ∷ bs)) - 1) bs
 
 abbrev pub lossy : List ℕ → List ℕ
 lossy bytes = lossy_past 0 bytes

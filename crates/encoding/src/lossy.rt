@@ -1,70 +1,48 @@
 // Text out of any bytes: each whole sequence of UTF-8 is kept, and each longest broken beginning of one becomes U+FFFD.
-ghost use Rattle.std.specs.Prelude.{◌≡◌, ◌<◌, ◌≤◌, length, nat_le};
-ghost use Rattle.text.specs.Area.{laid};
-ghost use Rattle.text.specs.Front.{front};
-ghost use Rattle.encoding.specs.Lossy.{shown, lossy};
+ghost use Rattle.std.specs.Iterator.{item_count};
+ghost use Rattle.text.specs.Area.{Spells};
+ghost use Rattle.encoding.specs.Lossy.{lossy};
 
-use text::{Sequence, sequence};
+use text::{Broken, Pieces, sequence};
 
 // U+FFFD, the replacement character, in UTF-8.
 const REPLACEMENT: [u8; 3] = [0xEF, 0xBF, 0xBD];
 
-// What stands at the front of some bytes: how many of them it takes, and its text.
+// The text of some bytes, which comes one sequence or one U+FFFD at a time.
 #[derive(Clone, Copy)]
-struct Piece<'a> {
-    taken: usize,
-    text: &'a [u8],
-}
+pub(crate) struct Lossy<'a>(pub(crate) &'a [u8]);
 
-fn first_piece(bytes: &[u8]) -> Piece<'_>
-    ensures taken { result.taken ≡ (front bytes.now).length }
-    ensures text { result.text.now ≡ shown bytes.now }
-    ensures within { result.taken ≤ length bytes.now }
-    ensures some { 0 < length bytes.now → 0 < result.taken }
-{
-    let Sequence {
-        length: taken,
-        whole,
-    } = sequence(bytes);
-    let text: &[u8] = if whole {
-        &bytes[0..taken]
-    } else {
-        &REPLACEMENT
-    };
-    Piece { taken, text }
-}
+impl<'a> Iterator for Lossy<'a> {
+    type Item = &'a [u8];
 
-// Whether the text of some bytes has room.
-pub(crate) fn lossy_fits(bytes: &[u8], room: usize) -> bool
-    ensures { result ≡ nat_le (length (lossy bytes.now)) room }
-{
-    let mut at = 0;
-    let mut left = room;
-    while at < bytes.len() {
-        let piece = first_piece(&bytes[at..]);
-        if left < piece.text.len() {
-            return false;
+    ghost next_gives = { Spells (λ s. lossy s.0.now) };
+
+    ghost remaining = { item_count (λ s. s.0.now) };
+
+    fn next(&mut self) -> Option<&'a [u8]> {
+        let bytes = self.0;
+        if bytes.is_empty() {
+            return None;
         }
-        left -= piece.text.len();
-        at += piece.taken;
+        match sequence(bytes) {
+            Ok(length) => {
+                self.0 = &bytes[length..];
+                Some(&bytes[..length])
+            }
+            Err(Broken(length)) => {
+                self.0 = &bytes[length..];
+                Some(&REPLACEMENT)
+            }
+        }
     }
-    true
 }
 
-// Writes the text of some bytes to the front of an area that has room for it, and answers how long the text is.
-pub(crate) fn write_lossy(bytes: &[u8], area: &mut [u8]) -> usize
-    requires { length (lossy bytes.now) ≤ length area.old }
-    ensures area { area.new ≡ laid (lossy bytes.now) area.old }
-    ensures count { result ≡ length (lossy bytes.now) }
-{
-    let mut at = 0;
-    let mut end = 0;
-    while at < bytes.len() {
-        let piece = first_piece(&bytes[at..]);
-        let next = end + piece.text.len();
-        area[end..next].copy_from_slice(piece.text);
-        end = next;
-        at += piece.taken;
-    }
-    end
+impl<'a> Pieces<'a> for Lossy<'a> {
+    ghost bytes = { λ s. lossy s.0.now };
+
+    ghost always = { λ _. tt };
+
+    ghost ends = { λ _. tt };
+
+    ghost spells = { λ s r t h. h };
 }

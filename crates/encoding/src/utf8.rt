@@ -4,8 +4,8 @@ ghost use Rattle.encoding.specs.Utf8Code.{utf8_code};
 ghost use Rattle.encoding.specs.Kept;
 
 use crate::encoding::Encoding;
-use crate::lossy::{lossy_fits, write_lossy};
-use text::is_utf8;
+use crate::lossy::Lossy;
+use text::{Parts, is_utf8, write_front};
 
 // Encodes text as it is. In decoding, each longest broken beginning of a sequence becomes U+FFFD.
 #[derive(Clone, Copy)]
@@ -17,19 +17,14 @@ impl Encoding for Utf8Encoding {
     ghost back = { λ s. Kept.back };
 
     fn encode(&self, text: &[u8], area: &mut [u8]) -> Option<usize> {
-        let length = text.len();
-        if !is_utf8(text) || area.len() < length {
+        if !is_utf8(text) {
             return None;
         }
-        area[0..length].copy_from_slice(text);
-        Some(length)
+        write_front(Parts(&[text]), area)
     }
 
     fn decode(&self, bytes: &[u8], area: &mut [u8]) -> Option<usize> {
-        if !lossy_fits(bytes, area.len()) {
-            return None;
-        }
-        Some(write_lossy(bytes, area))
+        write_front(Lossy(bytes), area)
     }
 }
 

@@ -1,10 +1,10 @@
 -- What stands at the front of some bytes, by the table. Assumes nothing.
-use Rattle.std.proofs.Common.{◌≡◌, ℕ, zero, suc, ◌+◌, ◌<◌, ◌≤◌, Bool, true, false, cond, ◌&&◌, ◌||◌, eqb, leb, ◌⊎◌, List, [], ◌∷◌, length, get_or, take, drop, sym, refl, ap, ◌∙◌, subst, inl, inr, suc-le-suc, zero-le, le_of_suc-le-suc, not-suc-le-zero, one-add, arith}
-use Rattle.std.proofs.lemmas.Bool.{and_from, and_left, and_parts, or_from, false≢true, leb-true, eqb-true, eq-eqb, lt-leb}
-use Rattle.text.specs.declared.sequences.Sequence.{Sequence}
+use Rattle.std.proofs.Common.{◌≡◌, ℕ, zero, suc, ◌+◌, ◌<◌, ◌≤◌, Bool, true, false, cond, ◌&&◌, ◌||◌, eqb, leb, ◌⊎◌, List, [], ◌∷◌, length, get_or, take, drop, Option, Some, None, Result, Ok, Err, is_ok, sym, refl, ap, ◌∙◌, subst, inl, inr, suc-le-suc, zero-le, le_of_suc-le-suc, not-suc-le-zero, one-add, arith}
+use Rattle.std.proofs.lemmas.Bool.{and_from, and_left, and_parts, or_from, false≢true, leb-true, eqb-true, eq-eqb, ne_eqb, lt-leb}
+use Rattle.text.specs.declared.sequences.Broken.{Broken}
 use Rattle.text.specs.Table.{Range, Row, table, within, fits, begins, some_row, is_sequence, begins_sequence}
-use Rattle.text.specs.Front.{leads, find_row, row_of, run, front, ByTable}
-use Rattle.text.proofs.Runs.{run_inside, run_fits, fits-run, run-begins, begins-run}
+use Rattle.text.specs.Front.{leads, find_row, row_of, run, announced, front, length_of, ByTable}
+use Rattle.text.proofs.Runs.{run_done, run_inside, run_fits, fits-run, run-begins, begins-run}
 
 or_none : (x y : Bool) → y ≡ false → (x || y) ≡ x
 or_none true y e = refl
@@ -154,7 +154,15 @@ by_row b bs [] l h = led_none b bs l
 by_row b bs (r ∷ row) l (inl e) = let z : ◌≡◌ {A = ℕ} 0 1 = cc in absurd (omega arith)
 by_row b bs (r ∷ row) l (inr w) = led_some b bs r row l w
 
-pub by_table : (bs : List ℕ) → ByTable bs (front bs).length (front bs).whole
+-- n bytes that are whole or broken
+abbrev pub ended : Bool → ℕ → Result ℕ Broken
+ended w n = cond w (Ok n) (Err (record { 0 = n }))
+
+ended_is : (w : Bool) (n : ℕ) → (length_of (ended w n) ≡ n) × (is_ok (ended w n) ≡ w)
+ended_is true n = (refl, refl)
+ended_is false n = (refl, refl)
+
+pub by_table : (bs : List ℕ) → ByTable bs (length_of (front bs)) (is_ok (front bs))
 unfolding front
 by_table [] = record {
   inside = zero-le;
@@ -168,21 +176,53 @@ by_table [] = record {
     none : (k : ℕ) → k ≤ 0 → is_sequence (take k []) ≡ true → ⊥
     none zero h e = false≢true (sym sequence_nil ∙ e)
     none (suc k) h e = not-suc-le-zero h
-by_table (b ∷ bs) = by_row b bs (row_of b) (record { by_fits = sequence_row b; by-begins = begins_row b }) (row_found b)
+by_table (b ∷ bs) =
+    let n = suc (run (drop 1 (row_of b)) bs) in
+    let w = eqb n (length (row_of b)) in
+    let is = ended_is w n in
+    subst (λ (m : ℕ). ByTable (b ∷ bs) m (is_ok (ended w n))) (sym is.0)
+    (subst (ByTable (b ∷ bs) n) (sym is.1) (by_row b bs (row_of b) (record { by_fits = sequence_row b; by-begins = begins_row b }) (row_found b)))
 
-pub sequence_by_table : (bs : List ℕ) (s : Sequence) → s ≡ front bs → ByTable bs s.length s.whole
-sequence_by_table bs s e = subst (λ (s : Sequence). ByTable bs s.length s.whole) (sym e) (by_table bs)
+pub sequence_by_table : (bs : List ℕ) (s : Result ℕ Broken) → s ≡ front bs → ByTable bs (length_of s) (is_ok s)
+sequence_by_table bs s e = subst (λ (s : Result ℕ Broken). ByTable bs (length_of s) (is_ok s)) (sym e) (by_table bs)
 
--- what the loop comes to
-pub front_none : (bs : List ℕ) → length bs ≡ 0 → record { length = 0; whole = false } ≡ front bs
+-- what the bytes come to: there are none, none begins a sequence, a place breaks it, or none does
+pub front_none : (bs : List ℕ) → length bs < 1 → ended false 0 ≡ front bs
 unfolding front
-front_none [] e = refl
-front_none (b ∷ bs) e = absurd (omega arith)
+front_none [] h = refl
+front_none (b ∷ bs) h = absurd (omega arith)
 
-pub front_some : (bs : List ℕ) (n w : ℕ) → 0 < length bs → n ≡ 1 + run (drop 1 (row_of (get_or bs 0 0))) (drop 1 bs) → w ≡ length (row_of (get_or bs 0 0))
-    → record { length = n; whole = eqb n w } ≡ front bs
+pub front_unled : (bs : List ℕ) → 1 ≤ length bs → None ≡ announced (row_of (get_or bs 0 0)) → ended false 1 ≡ front bs
+unfolding front run
+front_unled [] h e = absurd (not-suc-le-zero h)
+front_unled (b ∷ bs) h e = go (row_of b) e
+  where
+    go : (row : Row) → None ≡ announced row → ended false 1 ≡ ended (eqb (suc (run (drop 1 row) bs)) (length row)) (suc (run (drop 1 row) bs))
+    go [] e = refl
+    go (r ∷ row) e = let z : ◌≡◌ {A = ℕ} 0 1 = cc in absurd (omega arith)
+
+pub announced_is : (row : Row) (w : ℕ) → Some w ≡ announced row → (w ≡ length row) × (0 < w)
+announced_is [] w e = let z : ◌≡◌ {A = ℕ} 0 1 = cc in absurd (omega arith)
+announced_is (r ∷ row) w e = let is : w ≡ suc (length row) = cc in (is, (let z : 0 < w = omega (arith, is) in z))
+
+front_some : (bs : List ℕ) (n w : ℕ) (b : Bool) → 1 ≤ length bs → w ≡ length (row_of (get_or bs 0 0)) → n ≡ 1 + run (drop 1 (row_of (get_or bs 0 0))) (drop 1 bs)
+    → eqb n w ≡ b → ended b n ≡ front bs
 unfolding front
-front_some [] n w h e f = absurd (not-suc-le-zero h)
-front_some (b ∷ bs) n w h e f =
-    let n_is : n ≡ suc (run (drop 1 (row_of b)) bs) = e ∙ one-add _ in
-    rw (n_is, f)
+front_some [] n w b h f e t = absurd (not-suc-le-zero h)
+front_some (x ∷ bs) n w b h f e t =
+    let n_is : n ≡ suc (run (drop 1 (row_of x)) bs) = e ∙ one-add _ in
+    ap (λ c. ended c n) (sym t) ∙ ap (λ m. ended (eqb n m) n) f ∙ ap (λ m. ended (eqb m (length (row_of x))) m) n_is
+
+module _ (bs : List ℕ) (n w : ℕ) (some : 1 ≤ length bs) (long : Some w ≡ announced (row_of (get_or bs 0 0)))
+    (is : n + run (drop n (row_of (get_or bs 0 0))) (drop n bs) ≡ 1 + run (drop 1 (row_of (get_or bs 0 0))) (drop 1 bs)) where
+  pub front_broken : n < w → run (drop n (row_of (get_or bs 0 0))) (drop n bs) ≡ 0 → ended false n ≡ front bs
+  front_broken h none =
+      let e : n ≡ 1 + run (drop 1 (row_of (get_or bs 0 0))) (drop 1 bs) = omega (arith, none, is) in
+      front_some bs n w false some (announced_is _ w long).0 e (ne_eqb n w (λ p. omega (arith, p)))
+
+  pub front_whole : n ≡ w → ended true w ≡ front bs
+  front_whole all =
+      let k = (announced_is _ w long).0 in
+      let none = run_done (row_of (get_or bs 0 0)) bs n (let z : length (row_of (get_or bs 0 0)) ≤ n = omega (arith, k, all) in z) in
+      let e : w ≡ 1 + run (drop 1 (row_of (get_or bs 0 0))) (drop 1 bs) = omega (arith, none, is, all) in
+      front_some bs w w true some k e (eq-eqb w w refl)

@@ -1,5 +1,4 @@
 pub mod Laid
-pub mod Digits
 pub mod Valid
 pub mod Rows
 pub mod Ones

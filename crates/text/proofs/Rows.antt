@@ -1,7 +1,10 @@
 -- Which row of the table a first byte has. Assumes nothing.
-use Rattle.std.proofs.Common.{◌≡◌, ℕ, ◌<◌, ◌≤◌, true, cond, eqb, ◌⊎◌, [], ◌∷◌, length, get_or, sym, refl, ap, ◌∙◌, subst, inl, inr, ⊎_elim, arith, lit<, lit≤}
+use Rattle.std.proofs.Common.{◌≡◌, ℕ, ◌<◌, ◌≤◌, true, false, cond, ◌&&◌, eqb, leb, ◌⊎◌, [], ◌∷◌, length, get_or, Some, sym, refl, ap, ◌∙◌, subst, inl, inr, ⊎_elim, arith, lit<, lit≤}
 use Rattle.std.proofs.lemmas.Bool.{cases_lt, and_from, le-leb, ne_eqb}
 use Rattle.std.proofs.lemmas.Bool.Decides.{nat_tests}
+use Rattle.std.specs.Range.{range_inclusive_start, range_inclusive_end, range_inclusive_exhausted, range_inclusive_contains}
+use Rattle.std.specs.declared.ops.RangeInclusive.{RangeInclusive}
+use Rattle.std.specs.Ordering.{nat_cmp, is_le, is_lt, is_some_and}
 use Rattle.text.specs.Table.{Range, range, later, Row, within}
 use Rattle.text.specs.Front.{row_of}
 
@@ -149,16 +152,15 @@ second x l = go (kind x)
     go (three a b r w e) = rw e
     go (four a b r w e) = rw e
 
-pub second_is : (x k lo hi : ℕ) → 0 < k → k ≤ 1 → k < length (row_of x) → range lo hi ≡ range (low x) (high x) → range lo hi ≡ get_or (row_of x) k later
-second_is x k lo hi l h n e =
-    let one : k ≡ 1 = omega arith in
+pub second_is : (x k lo hi : ℕ) → k ≡ 1 → k < length (row_of x) → range lo hi ≡ range (low x) (high x) → range lo hi ≡ get_or (row_of x) k later
+second_is x k lo hi at n e =
     let long : 1 < length (row_of x) = omega arith in
-    e ∙ second x long ∙ ap (λ j. get_or (row_of x) j later) (sym one)
+    e ∙ second x long ∙ ap (λ j. get_or (row_of x) j later) (sym at)
 
 further_in : (row : Row) (k : ℕ) → later ≡ get_or row k later → (x : ℕ) → row_of x ≡ row → later ≡ get_or (row_of x) k later
 further_in row k f x e = f ∙ ap (λ (z : Row). get_or z k later) (sym e)
 
-pub further : (x k : ℕ) → 1 < k → k < length (row_of x) → later ≡ get_or (row_of x) k later
+further : (x k : ℕ) → 1 < k → k < length (row_of x) → later ≡ get_or (row_of x) k later
 further x k l h = go (kind x)
   where
     go : Kind x → later ≡ get_or (row_of x) k later
@@ -174,3 +176,21 @@ further x k l h = go (kind x)
         (λ p. let two : k ≡ 2 = omega arith in further_in (r ∷ range (low x) (high x) ∷ later ∷ later ∷ []) k (rw two) x e)
         (λ p. let three : k ≡ 3 = omega arith in further_in (r ∷ range (low x) (high x) ∷ later ∷ later ∷ []) k (rw three) x e)
         (cases_lt k 3)
+
+-- what stands behind any other first byte, and at any place behind the second
+pub other_is : (x k : ℕ) → 0 < k → (k ≡ 1 → (x ≡ 224 → ⊥) × (x ≡ 237 → ⊥) × (x ≡ 240 → ⊥) × (x ≡ 244 → ⊥)) → k < length (row_of x) → later ≡ get_or (row_of x) k later
+other_is x k l n h =
+    ⊎_elim
+    (λ p. let at : k ≡ 1 = omega arith in second_is x k 128 191 at h (let o = n at in plain x o.0 o.1 o.2 o.3))
+    (λ p. further x k p h)
+    (cases_lt k 2)
+
+le_is : (a b : ℕ) → is_le (nat_cmp a b) ≡ leb a b
+le_is a b = grind (arith, nat_tests)
+
+-- a range of Rust has the bytes that the table's range has
+pub contains_is : (r : RangeInclusive ℕ) (b : ℕ) (s : Range) → range_inclusive_exhausted r ≡ false → range (range_inclusive_start r) (range_inclusive_end r) ≡ s
+    → range_inclusive_contains (λ x y. Some (nat_cmp x y)) r b ≡ within s b
+contains_is r b s fresh is =
+    ap (λ t. is_le (nat_cmp r.start b) && cond t (is_some_and is_lt (Some (nat_cmp b r.end))) (is_le (nat_cmp b r.end))) fresh
+    ∙ ap (λ t. t && is_le (nat_cmp b r.end)) (le_is r.start b) ∙ ap (λ t. leb r.start b && t) (le_is b r.end) ∙ ap (λ z. within z b) is

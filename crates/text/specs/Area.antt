@@ -1,5 +1,6 @@
 -- Writing to the front of a lent area. Assumes nothing.
-use Rattle.std.specs.Prelude.{ℕ, cond, List, ◌++◌, length, drop, Some, None, Option, nat_le}
+use Rattle.std.specs.Prelude.{◌≡◌, ℕ, cond, List, [], ◌∷◌, ◌++◌, length, drop, Some, None, Option, nat_le}
+use denote.Ref.{Bor}
 
 -- what a writer answers, and what the area holds after
 pub record Filled : Type 0 where
@@ -18,3 +19,17 @@ laid bytes area = bytes ++ drop (length bytes) area
 abbrev pub filled : Option (List ℕ) → List ℕ → Filled
 filled None area = refused area
 filled (Some bytes) area = cond (nat_le (length bytes) (length area)) (record { answer = Some (length bytes); area = laid bytes area }) (refused area)
+
+-- the bytes of a piece that came and of those behind it; there are none where no piece came
+abbrev pub spelled : Option (Bor (List ℕ)) → List ℕ → List ℕ
+spelled None rest = []
+spelled (Some piece) rest = piece.now ++ rest
+
+-- a call of `next` took a piece off the front of the bytes that were to come, or found none
+abbrev pub Spells : {S : Type 0} → (S → List ℕ) → S → Option (Bor (List ℕ)) → S → Type 0
+Spells bytes s r t = bytes s ≡ spelled r (bytes t)
+
+-- the bytes of some slices, one behind another
+abbrev pub joined : List (Bor (List ℕ)) → List ℕ
+joined [] = []
+joined (part ∷ parts) = part.now ++ joined parts

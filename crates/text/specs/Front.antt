@@ -1,6 +1,6 @@
 -- The sequence of UTF-8, or the broken beginning of one, at the front of some bytes. Assumes nothing.
-use Rattle.std.specs.Prelude.{◌≡◌, ℕ, zero, suc, ◌<◌, ◌≤◌, Bool, true, false, cond, ◌⊎◌, List, [], ◌∷◌, length, take, drop, ◌==◌}
-use Rattle.text.specs.declared.sequences.Sequence.{Sequence}
+use Rattle.std.specs.Prelude.{◌≡◌, ℕ, zero, suc, ◌<◌, ◌≤◌, Bool, true, false, cond, ◌⊎◌, List, [], ◌∷◌, length, take, drop, Option, Some, None, Result, Ok, Err, ◌==◌}
+use Rattle.text.specs.declared.sequences.Broken.{Broken}
 use Rattle.text.specs.Table.{Row, table, within, is_sequence, begins_sequence}
 
 -- whether the first range of a row has the byte
@@ -16,18 +16,28 @@ find_row b (row ∷ rows) = cond (leads b row) row (find_row b rows)
 unfoldable pub row_of : ℕ → Row
 row_of b = find_row b table
 
+-- how many bytes a sequence of the row has, if there is one
+abbrev pub announced : Row → Option ℕ
+announced [] = None
+announced (r ∷ row) = Some (length (r ∷ row))
+
 -- how many bytes stand in the ranges of a row, one after another
 unfoldable pub run : Row → List ℕ → ℕ
 run [] bs = zero
 run (r ∷ row) [] = zero
 run (r ∷ row) (b ∷ bs) = cond (within r b) (suc (run row bs)) zero
 
--- the first byte, and as many behind it as go on in its row; whole where that is all of the row
-unfoldable pub front : List ℕ → Sequence
-front [] = record { length = 0; whole = false }
+-- the first byte, and as many behind it as go on in its row; whole where that is all of the row, and else broken
+unfoldable pub front : List ℕ → Result ℕ Broken
+front [] = Err (record { 0 = 0 })
 front (b ∷ bs) =
     let n = suc (run (drop 1 (row_of b)) bs) in
-    record { length = n; whole = (n == length (row_of b)) }
+    cond (n == length (row_of b)) (Ok n) (Err (record { 0 = n }))
+
+-- how many bytes the front takes, whole or broken
+abbrev pub length_of : Result ℕ Broken → ℕ
+length_of (Ok n) = n
+length_of (Err broken) = broken.0
 
 -- What the front of some bytes is by the table alone. It is whole exactly where they begin with a sequence, and is that
 -- sequence. Else it is the longest front that begins a sequence, or one byte where no sequence begins so: the

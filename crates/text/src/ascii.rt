@@ -5,5 +5,5 @@ ghost use Rattle.text.specs.Ascii.{digit};
 pub fn is_digit(byte: u8) -> bool
     ensures { result ≡ digit byte }
 {
-    byte >= b'0' && byte <= b'9'
+    byte.is_ascii_digit()
 }

@@ -1,15 +1,17 @@
-use Rattle.std.proofs.Common.{◌≤◌, length, sym, ap, ◌∙◌, inl, inr, ⊎_elim, arith}
+use Rattle.std.proofs.Common.{◌<◌, ◌≤◌, sym, ap, ◌∙◌, inl, inr, arith, Some}
+use Rattle.text.specs.Front.{announced}
 use Rattle.text.proofs.Rows.{row_none, row_one}
-use Rattle.text.proofs.Ones.{ones_none, ones_some, announced}
+use Rattle.text.proofs.Ones.{ones_announced}
 use Rattle.text.proofs.utf8.announced_length.Goals as goal
 
-pub returns-then-ones-eq0 : goal.returns-then-ones-eq0
-returns-then-ones-eq0 c = sym (ap length (row_one _ (ones_none _ c.ranges.first.fits (sym c.leading_ones-ones.ensures ∙ c.if-ones-eq0.true))))
+pub returns-in-0-to-127 : goal.returns-in-0-to-127
+returns-in-0-to-127 c = sym (ap announced (row_one _ (omega arith)))
 
-pub returns-then-first-lt194 : goal.returns-then-first-lt194
-returns-then-first-lt194 c =
-    let h : 128 ≤ c.args.first = ones_some _ (λ e. c.if-ones-eq0.false (c.leading_ones-ones.ensures ∙ e)) in
-    sym (ap length (row_none _ h (⊎_elim inl (λ p. inr p.1) c.then-first-lt194.either)))
+pub returns-in-194-to-244 : goal.returns-in-194-to-244
+returns-in-194-to-244 c = ap (λ n. Some n) c.leading_ones.ensures ∙ ones_announced _ (omega arith) (omega arith)
 
-pub returns : goal.returns
-returns c = c.leading_ones-ones.ensures ∙ announced _ (omega arith) (omega arith)
+pub returns-in_default : goal.returns-in_default
+returns-in_default c = sym (ap announced (row_none c.args.first (omega arith) (inl (omega arith))))
+
+pub returns-in_default-2 : goal.returns-in_default-2
+returns-in_default-2 c = sym (ap announced (row_none c.args.first (omega arith) (inr (omega arith))))

@@ -1,36 +1,53 @@
-use Rattle.std.proofs.Common.{◌≡◌, ◌+◌, ◌<◌, ◌≤◌, length, get_or, drop, sym, ◌∙◌, arith}
-use Rattle.std.proofs.lemmas.Bool.{eqb-true}
-use Rattle.text.specs.Front.{row_of, run}
-use Rattle.text.proofs.Runs.{run_more, run_stop, run_past, run_done}
-use Rattle.text.proofs.Fronts.{front_none, front_some, sequence_by_table}
+use Rattle.std.proofs.Common.{◌≡◌, ◌<◌, ◌≤◌, Bool, length, get_or, rules, sym, ap, ◌∙◌, arith}
+use Rattle.text.specs.Table.{later, within}
+use Rattle.text.specs.Front.{row_of}
+use Rattle.text.proofs.Rows.{contains_is}
+use Rattle.text.proofs.Runs.{run_more, run_stop, run_past}
+use Rattle.text.proofs.Fronts.{front_none, front_unled, front_broken, front_whole, announced_is, sequence_by_table}
 use Rattle.text.proofs.utf8.sequence.Goals as goal
-use Rattle.text.proofs.utf8.sequence.Goals.{then-loop-length-test+then-length-bytes+else-may_follow, then-loop-length-test+else-length-bytes, else-loop-length-test}
 
-pub returns-then-is_empty : goal.returns-then-is_empty
-returns-then-is_empty c =
-    let e = front_none c.args.bytes.now (eqb-true _ _ (sym c.if-is_empty.ensures)) in
-    record { value = e; maximal = sequence_by_table c.args.bytes.now _ e }
+pub returns-in_default : goal.returns-in_default
+returns-in_default c = let e = front_none c.args.bytes.now c.in_default.len_below in record { value = e; maximal = sequence_by_table _ _ e }
 
-pub loop-length-preserved : goal.loop-length-preserved
-loop-length-preserved c =
-    let row = row_of (get_or c.args.bytes.now 0 0) in
-    let more : c.loop-length.length < length row = omega arith in
-    (omega arith, omega arith, sym (run_more row c.args.bytes.now c.loop-length.length more c.if-length-bytes.true c.if-may_follow.ensures) ∙ c.loop-length.invariant.2)
+pub returns-in_default-announced_length : goal.returns-in_default-announced_length
+returns-in_default-announced_length c =
+    let e = front_unled c.args.bytes.now c.in-len1-up.len_at_least c.in_default-announced_length.ensures in
+    record { value = e; maximal = sequence_by_table _ _ e }
+
+pub returns-in_default-get : goal.returns-in_default-get
+returns-in_default-get c =
+    let bs = c.args.bytes.now in
+    let row = row_of (get_or bs 0 0) in
+    let n = c.loop-place.place in
+    let more : n < length row = omega (arith, (announced_is _ _ c.in-Some.ensures).0) in
+    let inside : n < length bs = search rules in
+    let at : c.in-Some-get.byte.now ≡ get_or bs n 0 = search rules in
+    let out = c.if-contains.ensures.value ∙ contains_is _ _ _ c.allowed.ensures.fresh c.allowed.ensures.ends ∙ ap (within (get_or row n later)) at in
+    let e = front_broken bs n _ c.in-len1-up.len_at_least c.in-Some.ensures c.loop-place.invariant.1 c.loop-place-test.true (run_stop row bs n more inside out) in
+    record { value = e; maximal = sequence_by_table _ _ e }
+
+pub returns-in_default-get-2 : goal.returns-in_default-get-2
+returns-in_default-get-2 c =
+    let bs = c.args.bytes.now in
+    let past : length bs ≤ c.loop-place.place = search rules in
+    let e =
+    front_broken bs c.loop-place.place _ c.in-len1-up.len_at_least c.in-Some.ensures c.loop-place.invariant.1 c.loop-place-test.true
+    (run_past (row_of (get_or bs 0 0)) bs c.loop-place.place past) in
+    record { value = e; maximal = sequence_by_table _ _ e }
+
+pub loop-place-preserved : goal.loop-place-preserved
+loop-place-preserved c =
+    let bs = c.args.bytes.now in
+    let row = row_of (get_or bs 0 0) in
+    let n = c.loop-place.place in
+    let more : n < length row = omega (arith, (announced_is _ _ c.in-Some.ensures).0) in
+    let inside : n < length bs = search rules in
+    let at : c.in-Some-get.byte.now ≡ get_or bs n 0 = search rules in
+    let in_it = c.if-contains.ensures.value ∙ contains_is _ _ _ c.allowed.ensures.fresh c.allowed.ensures.ends ∙ ap (within (get_or row n later)) at in
+    (omega arith, sym (run_more row bs n more inside in_it) ∙ c.loop-place.invariant.1)
 
 pub returns : goal.returns
 returns c =
-    let bs = c.args.bytes.now in
-    let row = row_of (get_or bs 0 0) in
-    let n = c.loop-length.length in
-    let none : run (drop n row) (drop n bs) ≡ 0 =
-    elim c.loop-length-test.branch [
-      | then-loop-length-test+then-length-bytes+else-may_follow w ↦
-          let more : n < length row = omega (arith, w.loop-length-test.true) in
-          run_stop row bs n more w.if-length-bytes.true w.if-may_follow.ensures
-      | then-loop-length-test+else-length-bytes w ↦ run_past row bs n w.if-length-bytes.false
-      | else-loop-length-test w ↦ let done : length row ≤ n = omega (arith, w.loop-length-test.false) in run_done row bs n done
-    ] in
-    let is : n ≡ 1 + run (drop 1 row) (drop 1 bs) = omega (arith, none, c.loop-length.invariant.2) in
-    let some : 0 < length bs = omega arith in
-    let e = front_some bs n _ some is c.announced_length-announced.ensures in
-    record { value = e; maximal = sequence_by_table bs _ e }
+    let all : c.loop-place.place ≡ c.in-Some.announced = omega (arith, (announced_is _ _ c.in-Some.ensures).1, c.loop-place.auto.place-end) in
+    let e = front_whole c.args.bytes.now c.loop-place.place _ c.in-len1-up.len_at_least c.in-Some.ensures c.loop-place.invariant.1 all in
+    record { value = e; maximal = sequence_by_table _ _ e }
