@@ -12,8 +12,7 @@ mod play;
 mod rows;
 mod shown;
 
-use crate::play::play;
-use anyhow::anyhow;
+use crate::play::{Account, play};
 use script::parse;
 use std::io::Read;
 use std::process::ExitCode;
@@ -29,49 +28,42 @@ fn main(rt: HostRuntime) -> anyhow::Result<ExitCode> {
 }
 
 fn replay(rt: &HostRuntime) -> anyhow::Result<()> {
-    let mut in_rows = false;
+    let mut account = Account::People;
     let mut played = false;
-    for (place, word) in env::args(rt)?.enumerate() {
-        if place == 0 {
-            continue;
-        }
+    for word in env::args(rt)?.skip(1) {
         if word.as_str() == "rows" {
-            in_rows = true;
+            account = Account::Machines;
         } else {
-            play_file(rt, word.as_str(), in_rows)?;
+            play_file(rt, word.as_str(), account)?;
             played = true;
         }
     }
     if played {
         return Ok(());
     }
-    play_input(rt, in_rows)
+    play_input(rt, account)
 }
 
-fn play_file(rt: &HostRuntime, name: &str, in_rows: bool) -> anyhow::Result<()> {
+fn play_file(rt: &HostRuntime, name: &str, account: Account) -> anyhow::Result<()> {
     let text = fs::read(rt, name)?;
-    if !in_rows {
-        println!(rt; "=== {name}")?;
-        println!(rt; "")?;
+    if account == Account::Machines {
+        return play_text(rt, text.as_slice(), account);
     }
-    play_text(rt, text.as_slice(), in_rows)?;
-    if !in_rows {
-        println!(rt; "")?;
-    }
+    println!(rt; "=== {name}")?;
+    println!(rt; "")?;
+    play_text(rt, text.as_slice(), account)?;
+    println!(rt; "")?;
     Ok(())
 }
 
-fn play_input(rt: &HostRuntime, in_rows: bool) -> anyhow::Result<()> {
+fn play_input(rt: &HostRuntime, account: Account) -> anyhow::Result<()> {
     let mut text = Vec::new(rt.alloc());
     rt.stdin().read_to_end(&mut text)?;
-    play_text(rt, text.as_slice(), in_rows)
+    play_text(rt, text.as_slice(), account)
 }
 
 // A script that cannot be read is an error that names its line, and nothing of it is played.
-fn play_text(rt: &HostRuntime, text: &[u8], in_rows: bool) -> anyhow::Result<()> {
-    let script = match parse(rt.alloc(), text) {
-        Ok(script) => script,
-        Err(error) => return Err(anyhow!(format!(in rt.alloc(); "{error}")?)),
-    };
-    play(rt, &script, in_rows)
+fn play_text(rt: &HostRuntime, text: &[u8], account: Account) -> anyhow::Result<()> {
+    let script = parse(rt.alloc(), text)?;
+    play(rt, &script, account)
 }

@@ -1,46 +1,50 @@
 // The areas that calls are lent, and what is known of one call.
-use script::Script;
+use script::{Script, Step};
+use session::Areas;
 use std::alloc::{AllocError, Global};
 use tally::Answer;
 
-#[derive(Drop)]
-pub struct Areas {
+// What the areas hold.
+#[derive(Clone, Drop)]
+pub struct Held {
     pub reply: Vec<u8>,
     pub wide: Vec<u8>,
     pub narrow: Vec<u8>,
 }
 
-impl Areas {
+// The most that any call is lent of an area.
+fn longest<F: Fn(&Step) -> usize>(script: &Script, lent: F) -> usize
+    requires { F.IsAlwaysCallable lent }
+{
+    script.calls.iter().map(lent).max().unwrap_or(0)
+}
+
+impl Held {
     // As long as the longest that a call is lent, and every byte the fill.
-    pub fn new(heap: Global, script: &Script) -> Result<Areas, AllocError> {
-        let mut reply = 0;
-        let mut wide = 0;
-        let mut narrow = 0;
-        for step in script.calls.iter() {
-            reply = step.lent.reply.max(reply);
-            wide = step.lent.wide.max(wide);
-            narrow = step.lent.narrow.max(narrow);
-        }
-        Ok(Areas {
+    pub fn new(heap: Global, script: &Script) -> Result<Held, AllocError> {
+        let reply = longest(script, |step| step.lent.reply);
+        let wide = longest(script, |step| step.lent.wide);
+        let narrow = longest(script, |step| step.lent.narrow);
+        Ok(Held {
             reply: vec![in heap; script.fill; reply]?,
             wide: vec![in heap; script.fill; wide]?,
             narrow: vec![in heap; script.fill; narrow]?,
         })
     }
 
-    pub fn copy(&self, heap: Global) -> Result<Areas, AllocError> {
-        Ok(Areas {
-            reply: self.reply.as_slice().to_vec(heap)?,
-            wide: self.wide.as_slice().to_vec(heap)?,
-            narrow: self.narrow.as_slice().to_vec(heap)?,
-        })
+    pub fn areas(&mut self) -> Areas<'_> {
+        Areas {
+            reply: self.reply.as_mut_slice(),
+            wide: self.wide.as_mut_slice(),
+            narrow: self.narrow.as_mut_slice(),
+        }
     }
 }
 
 // What the areas held before a call, how many bytes were sent and taken by then, and what the call answered.
 #[derive(Drop)]
 pub struct Moment {
-    pub before: Areas,
+    pub before: Held,
     pub sent: usize,
     pub taken: usize,
     pub answer: Answer,

@@ -1,9 +1,8 @@
 // What happened, for people.
-use crate::moment::{Areas, Moment};
+use crate::moment::Moment;
 use crate::play::Played;
-use crate::rows::layer_name;
-use crate::shown::{call_name, front, line_length, readable, rest, unended};
-use command::{Fault, FileType};
+use crate::shown::{Readable, call_name, front, line_length, rest, unended};
+use command::Fault;
 use link::{Buffers, Ending};
 use reply::{Rule, read_response};
 use script::{OwnedAsk, Script, Step};
@@ -13,7 +12,6 @@ pub fn print(
     rt: &HostRuntime,
     script: &Script,
     session: &Played<'_, '_>,
-    areas: &Areas,
     step: &Step,
     moment: &Moment,
 ) -> anyhow::Result<()> {
@@ -28,43 +26,25 @@ pub fn print(
 fn print_call(rt: &HostRuntime, ask: &OwnedAsk) -> anyhow::Result<()> {
     let name = call_name(ask);
     match ask {
-        OwnedAsk::Login(first, second) | OwnedAsk::Rename(first, second) => print_two(
-            rt,
-            name,
-            first.as_slice(),
-            second.as_slice(),
-        ),
-        OwnedAsk::Cwd(path) | OwnedAsk::Dele(path) | OwnedAsk::Rmd(path) | OwnedAsk::Mkd(path) =>
-            print_one(rt, name, path.as_slice()),
-        OwnedAsk::Resume(offset) => {
-            println!(rt; "{name} at {offset}")?;
-            Ok(())
+        OwnedAsk::Login(first, second) | OwnedAsk::Rename(first, second) => {
+            let first = Readable(first.as_slice());
+            let second = Readable(second.as_slice());
+            println!(rt; "{name} \"{first}\" \"{second}\"")?;
         }
-        OwnedAsk::TransferType(file_type) => print_type(rt, name, *file_type),
-        OwnedAsk::Greet | OwnedAsk::Cdup | OwnedAsk::Noop | OwnedAsk::Quit => {
-            println!(rt; "{name}")?;
-            Ok(())
+        OwnedAsk::Cwd(path) | OwnedAsk::Dele(path) | OwnedAsk::Rmd(path) | OwnedAsk::Mkd(path) => {
+            let path = Readable(path.as_slice());
+            println!(rt; "{name} \"{path}\"")?;
         }
+        OwnedAsk::Resume(offset) => println!(rt; "{name} at {offset}")?,
+        OwnedAsk::TransferType(file_type) => {
+            let (text, length) = file_type.text();
+            let written = Readable(front(&text, length));
+            println!(rt; "{name} {written}")?;
+        }
+        OwnedAsk::Greet | OwnedAsk::Cdup | OwnedAsk::Noop | OwnedAsk::Quit => println!(rt;
+            "{name}"
+        )?,
     }
-}
-
-fn print_one(rt: &HostRuntime, name: &str, argument: &[u8]) -> anyhow::Result<()> {
-    let argument = readable(rt.alloc(), argument)?;
-    println!(rt; "{name} \"{argument}\"")?;
-    Ok(())
-}
-
-fn print_two(rt: &HostRuntime, name: &str, first: &[u8], second: &[u8]) -> anyhow::Result<()> {
-    let first = readable(rt.alloc(), first)?;
-    let second = readable(rt.alloc(), second)?;
-    println!(rt; "{name} \"{first}\" \"{second}\"")?;
-    Ok(())
-}
-
-fn print_type(rt: &HostRuntime, name: &str, file_type: FileType) -> anyhow::Result<()> {
-    let (text, length) = file_type.text();
-    let written = readable(rt.alloc(), front(&text, length))?;
-    println!(rt; "{name} {written}")?;
     Ok(())
 }
 
@@ -84,15 +64,9 @@ fn print_exchange(rt: &HostRuntime, sent: &[u8], came: &[u8], limit: usize) -> a
 }
 
 fn print_lines(rt: &HostRuntime, mark: &str, bytes: &[u8]) -> anyhow::Result<()> {
-    let mut left = bytes;
-    for _ in 0..bytes.len() {
-        if left.is_empty() {
-            break;
-        }
-        let length = line_length(left);
-        let line = readable(rt.alloc(), unended(front(left, length)))?;
+    for line in bytes.split_inclusive(|byte| *byte == b'\n') {
+        let line = Readable(unended(line));
         println!(rt; "{mark}{line}")?;
-        left = rest(left, length);
     }
     Ok(())
 }
@@ -115,13 +89,13 @@ fn taken_by_reply<'a>(out: &'a mut [u8], came: &'a [u8], area: &mut [u8]) -> usi
 
 fn print_answer(rt: &HostRuntime, answer: Answer) -> anyhow::Result<()> {
     match answer {
-        Answer::Passed(reply) => {
+        Ok(Some(reply)) => {
             let code = reply.code;
             let length = reply.length;
             println!(rt; "  passed    with {code}, a reply of {length} bytes")?;
         }
-        Answer::Refused(fault) => print_fault(rt, fault)?,
-        Answer::Done => println!(rt; "  done")?,
+        Ok(None) => println!(rt; "  done")?,
+        Err(fault) => print_fault(rt, fault)?,
     }
     Ok(())
 }
@@ -129,7 +103,7 @@ fn print_answer(rt: &HostRuntime, answer: Answer) -> anyhow::Result<()> {
 fn print_fault(rt: &HostRuntime, fault: Fault) -> anyhow::Result<()> {
     let number = fault.number();
     let refusal = fault.refusal;
-    let layer = layer_name(fault.layer());
+    let layer = fault.layer();
     println!(rt; "  refused   by number {number} ({layer}): {refusal}")?;
     if let Some(verb) = fault.verb {
         println!(rt; "            it speaks of the line {verb}")?;
@@ -148,12 +122,11 @@ pub fn print_end(
     script: &Script,
     session: &Played<'_, '_>,
 ) -> anyhow::Result<()> {
-    let record = session.record();
     let sent = session.link().sent().len();
     let taken = session.link().taken();
-    let all = script.server.as_slice().len();
+    let all = script.server.len();
     println!(rt; "")?;
-    if record.in_step {
+    if session.record().in_step {
         println!(rt; "The session is in step: every line that was sent has its own reply.")?;
     } else {
         println!(rt;

@@ -1,21 +1,29 @@
 // The calls of a script, one after another.
-use crate::moment::{Areas, Moment};
+use crate::moment::{Held, Moment};
 use crate::{people, rows};
-use carrier::{Carrier, Script as HostScript};
+use carrier::Script as HostScript;
 use encoding::Utf8Encoding;
 use link::Buffers;
 use script::{OwnedAsk, Script, Step};
 use session::{Plain, Session};
-use tally::{Answer, Ask, Call, Lent, make};
+use tally::{Ask, Call, Lent, make};
 
 pub type Played<'a, 'b> = Session<Buffers<'a>, HostScript<'b>, Utf8Encoding>;
 
+// For whom it is told what happened.
+#[derive(Clone, Copy, PartialEq, Eq)]
+pub enum Account {
+    People,
+    // One line a call.
+    Machines,
+}
+
 // Plays the whole script. The areas hold the fill byte before the first call, and keep what each call leaves.
-pub fn play(rt: &HostRuntime, script: &Script, in_rows: bool) -> anyhow::Result<()> {
+pub fn play(rt: &HostRuntime, script: &Script, account: Account) -> anyhow::Result<()> {
     let heap = rt.alloc();
     let mut out = vec![in heap; 0u8; script.room]?;
-    let mut areas = Areas::new(heap, script)?;
-    play_over(rt, script, out.as_mut_slice(), &mut areas, in_rows)
+    let mut held = Held::new(heap, script)?;
+    play_over(rt, script, out.as_mut_slice(), &mut held, account)
 }
 
 // With a link that sends to `out`.
@@ -23,13 +31,13 @@ fn play_over<'a>(
     rt: &HostRuntime,
     script: &'a Script,
     out: &'a mut [u8],
-    areas: &mut Areas,
-    in_rows: bool,
+    held: &mut Held,
+    account: Account,
 ) -> anyhow::Result<()> {
     let link = Buffers::new(out, script.server.as_slice(), script.ending);
     let host = HostScript::new(script.host.as_slice());
     let mut session = Session::new(link, host, Utf8Encoding, script.settings);
-    let result = play_calls(rt, script, &mut session, areas, in_rows);
+    let result = play_calls(rt, script, &mut session, held, account);
     let (_, _, _) = session.into_parts();
     result
 }
@@ -38,49 +46,36 @@ fn play_calls(
     rt: &HostRuntime,
     script: &Script,
     session: &mut Played<'_, '_>,
-    areas: &mut Areas,
-    in_rows: bool,
+    held: &mut Held,
+    account: Account,
 ) -> anyhow::Result<()> {
     for step in script.calls.iter() {
-        let moment = play_call(rt, session, areas, step)?;
-        if in_rows {
-            rows::print(rt, script, session, areas, step, &moment)?;
-        } else {
-            people::print(rt, script, session, areas, step, &moment)?;
+        let moment = play_call(session, held, step)?;
+        match account {
+            Account::People => people::print(rt, script, session, step, &moment)?,
+            Account::Machines => rows::print(rt, script, session, held, step, &moment)?,
         }
     }
-    if !in_rows {
+    if account == Account::People {
         people::print_end(rt, script, session)?;
     }
     Ok(())
 }
 
 // Makes one call, and keeps what is needed to tell what it did.
-fn play_call(
-    rt: &HostRuntime,
-    session: &mut Played<'_, '_>,
-    areas: &mut Areas,
-    step: &Step,
-) -> anyhow::Result<Moment> {
-    let before = areas.copy(rt.alloc())?;
+fn play_call(session: &mut Played<'_, '_>, held: &mut Held, step: &Step) -> anyhow::Result<Moment> {
+    let before = held.clone()?;
     let sent = session.link().sent().len();
     let taken = session.link().taken();
-    let lent = Lent {
-        reply: step.lent.reply,
-        wide: step.lent.wide,
-        narrow: step.lent.narrow,
-    };
     let call = Call {
         ask: asked(&step.ask),
-        lent,
+        lent: Lent {
+            reply: step.lent.reply,
+            wide: step.lent.wide,
+            narrow: step.lent.narrow,
+        },
     };
-    let answer = make(
-        session,
-        call,
-        areas.reply.as_mut_slice(),
-        areas.wide.as_mut_slice(),
-        areas.narrow.as_mut_slice(),
-    );
+    let answer = make(session, call, &mut held.areas());
     Ok(Moment {
         before,
         sent,
@@ -89,7 +84,7 @@ fn play_call(
     })
 }
 
-fn asked(ask: &OwnedAsk) -> Ask<'_> {
+fn asked(ask: &OwnedAsk) -> Ask<&[u8]> {
     match ask {
         OwnedAsk::Greet => Ask::Greet,
         OwnedAsk::Login(user, password) => Ask::Login(user.as_slice(), password.as_slice()),

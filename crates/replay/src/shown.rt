@@ -1,70 +1,72 @@
 // Bytes as text.
 use script::OwnedAsk;
-use std::alloc::{AllocError, Global};
+use std::fmt;
 
 // The part of some bytes from a place on; nothing where the place is past the end.
 pub fn rest(bytes: &[u8], from: usize) -> &[u8] {
-    if from <= bytes.len() {
-        &bytes[from..]
-    } else {
-        &bytes[0..0]
-    }
+    bytes.get(from..).unwrap_or(&[])
 }
 
 // At most so many bytes from the front.
 pub fn front(bytes: &[u8], length: usize) -> &[u8] {
-    let end = length.min(bytes.len());
-    &bytes[0..end]
+    bytes.get(..length).unwrap_or(bytes)
 }
 
-pub fn hex(heap: Global, bytes: &[u8]) -> Result<String, AllocError> {
-    let mut text = String::new(heap);
-    for byte in bytes {
-        let digits = format!(in heap; "{byte:02x}")?;
-        text.push_str(digits.as_str())?;
+// Two digits for each byte.
+#[derive(Clone, Copy)]
+pub struct Hex<'a>(pub &'a [u8]);
+
+impl fmt::Display for Hex<'_> {
+    fn fmt<W: fmt::Write>(&self, f: &mut fmt::Formatter<W>) -> fmt::Result {
+        for byte in self.0 {
+            write!(f, "{byte:02x}")?;
+        }
+        Ok(())
     }
-    Ok(text)
 }
 
 // Readable as a line: text as it is, and every other byte as `\x` and two digits.
-pub fn readable(heap: Global, bytes: &[u8]) -> Result<String, AllocError> {
-    if let Ok(text) = std::str::from_utf8(bytes) {
-        return readable_text(heap, text);
-    }
-    let mut shown = String::new(heap);
-    for byte in bytes {
-        if *byte >= 32 && *byte < 127 {
-            shown.push(*byte as char)?;
-        } else {
-            let escaped = format!(in heap; "\\x{byte:02x}")?;
-            shown.push_str(escaped.as_str())?;
+#[derive(Clone, Copy)]
+pub struct Readable<'a>(pub &'a [u8]);
+
+impl fmt::Display for Readable<'_> {
+    fn fmt<W: fmt::Write>(&self, f: &mut fmt::Formatter<W>) -> fmt::Result {
+        match std::str::from_utf8(self.0) {
+            Ok(text) => write_text(f, text),
+            Err(_) => write_bytes(f, self.0),
         }
     }
-    Ok(shown)
 }
 
-fn readable_text(heap: Global, text: &str) -> Result<String, AllocError> {
-    let mut shown = String::new(heap);
+fn write_text<W: fmt::Write>(f: &mut fmt::Formatter<W>, text: &str) -> fmt::Result {
     for letter in text.chars() {
         if letter >= ' ' && letter != '\u{7f}' {
-            shown.push(letter)?;
+            f.write_char(letter)?;
         } else {
             let code = letter as u32;
-            let escaped = format!(in heap; "\\x{code:02x}")?;
-            shown.push_str(escaped.as_str())?;
+            write!(f, "\\x{code:02x}")?;
         }
     }
-    Ok(shown)
+    Ok(())
+}
+
+fn write_bytes<W: fmt::Write>(f: &mut fmt::Formatter<W>, bytes: &[u8]) -> fmt::Result {
+    for byte in bytes {
+        if *byte >= 32 && *byte < 127 {
+            f.write_char(*byte as char)?;
+        } else {
+            write!(f, "\\x{byte:02x}")?;
+        }
+    }
+    Ok(())
 }
 
 // How many bytes the first line has, with its byte 10; all of them where none ends it.
 pub fn line_length(bytes: &[u8]) -> usize {
-    for (place, byte) in bytes.iter().enumerate() {
-        if *byte == b'\n' {
-            return place + 1;
-        }
-    }
-    bytes.len()
+    bytes
+        .iter()
+        .position(|byte| *byte == b'\n')
+        .map_or(bytes.len(), |place| place + 1)
 }
 
 // A line without its CR LF or LF.
