@@ -1,24 +1,15 @@
 -- The lines sent are read back from their bytes, and the bytes taken from what is still coming. Assumes nothing.
 use Rattle.std.proofs.Common.{◌≡◌, ℕ, ◌-◌, cond, List, [], ◌∷◌, ◌++◌, length, take, drop, sym, refl, ap, ◌∙◌, append_assoc, arith, length-append}
+use Rattle.std.specs.List.{concat}
 use Rattle.std.proofs.lemmas.List.{take_at, drop_at}
 use Rattle.link.specs.Wire.{Wire}
 use Rattle.command.specs.Laws.{Plain, Whole}
-use Rattle.tally.specs.Observed.{lines_on, grown, taken, Wholes, joined, sent, marked}
+use Rattle.tally.specs.Observed.{lines_on, grown, taken, Wholes}
 
 -- whole lines before whole lines
 pub wholes_append : (ls ms : List (List ℕ)) → Wholes ls → Wholes ms → Wholes (ls ++ ms)
 wholes_append [] ms h g = g
 wholes_append (l ∷ ls) ms h g = (h.0, wholes_append ls ms h.1 g)
-
--- the bytes of lines before other lines
-pub joined-append : (ls ms : List (List ℕ)) → joined (ls ++ ms) ≡ joined ls ++ joined ms
-joined-append [] ms = refl
-joined-append (l ∷ ls) ms = ap (λ z. l ++ z) (joined-append ls ms) ∙ sym (append_assoc l (joined ls) (joined ms))
-
--- the marks of lines before other lines
-pub marked_append : (ls ms : List (List ℕ)) → marked (ls ++ ms) ≡ marked ls ++ marked ms
-marked_append [] ms = refl
-marked_append (l ∷ ls) ms = ap (λ z. sent l ∷ z) (marked_append ls ms)
 
 -- a body free of CR and LF goes on to the end of its line
 body_on : (a body rest : List ℕ) → Plain body → lines_on a (body ++ 13 ∷ 10 ∷ rest) ≡ (a ++ (body ++ 13 ∷ 10 ∷ [])) ∷ lines_on [] rest
@@ -37,9 +28,9 @@ first_line l rest h =
     ∙ ap (λ z. z ∷ lines_on [] rest) (sym h.is)
 
 -- bytes that are whole lines are cut into just those
-pub lines_back : (ls : List (List ℕ)) → Wholes ls → lines_on [] (joined ls) ≡ ls
+pub lines_back : (ls : List (List ℕ)) → Wholes ls → lines_on [] (concat ls) ≡ ls
 lines_back [] h = refl
-lines_back (l ∷ ls) h = first_line l (joined ls) h.0 ∙ ap (λ z. l ∷ z) (lines_back ls h.1)
+lines_back (l ∷ ls) h = first_line l (concat ls) h.0 ∙ ap (λ z. l ∷ z) (lines_back ls h.1)
 
 -- what a link sent since it meant v
 pub grown_is : (v w : Wire) (bytes : List ℕ) → w.sent ≡ v.sent ++ bytes → grown v w ≡ bytes

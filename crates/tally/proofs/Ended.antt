@@ -1,5 +1,6 @@
 -- What the law wants of one call, and a call that its first questions refuse. Assumes nothing.
 use Rattle.std.proofs.Common.{◌≡◌, ℕ, Bool, true, false, cond, not, leb, List, [], ◌∷◌, ◌++◌, None, Ok, Err, Result, sym, refl, ap, ◌∙◌, subst, append-nil, arith}
+use Rattle.std.specs.List.{concat}
 use Rattle.std.proofs.lemmas.Bool.{leb-true, le-leb}
 use Rattle.encoding.specs.Code.{Code}
 use Rattle.command.specs.Refusals.{number_of}
@@ -13,7 +14,7 @@ use Rattle.session.specs.Model.{Model, Desk}
 use Rattle.session.specs.Outcome.{Outcome, Called, wiped, past}
 use Rattle.session.specs.Calls.{none_read, refusal, long_enough, greeted_as, questions_of}
 use Rattle.tally.specs.declared.calls.Ask.TheVariants.{Greet, Login, Plain, Rename, TransferType, Resume}
-use Rattle.tally.specs.Observed.{greeting, joined, marked, by_ask}
+use Rattle.tally.specs.Observed.{greeting, marked, by_ask}
 use Rattle.tally.specs.Tally.{Tally, on}
 use Rattle.tally.specs.Law.{Said, say, said_by, Accepts, handed, Own, Newest}
 use Rattle.tally.specs.Runs.{told, in_words}
@@ -36,7 +37,7 @@ pub record Moved (c : Code) (ask : Asked) (m : Model) (t : Tally) (o : Called Ve
   pub spoken : Spoken c saids lines
   pub is : on (with_more took t) (marked lines ++ by_ask ask o.answer) ≡ now
   pub tied : Tied c o.after now
-  pub out : o.after.wire.sent ≡ m.wire.sent ++ joined lines
+  pub out : o.after.wire.sent ≡ m.wire.sent ++ concat lines
   pub coming : m.wire.coming ≡ took ++ o.after.wire.coming
   pub quiet : t.broken ≡ true → took ≡ []
   pub post : Ended ask t o.answer saids o.desk.reply now

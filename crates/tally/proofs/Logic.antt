@@ -1,16 +1,18 @@
 -- A small logic of outcomes: what a piece of a call keeps between the session's model and the tally, and how pieces join.
 -- Assumes nothing.
 use Rattle.std.proofs.Common.{◌≡◌, ℕ, true, false, not, List, [], ◌∷◌, ◌++◌, Ok, Err, Result, sym, refl, ap, ◌∙◌, append_assoc, append-nil}
+use Rattle.std.specs.List.{concat}
+use Rattle.std.proofs.lemmas.List.{map-append}
+use Rattle.std.proofs.lemmas.List.Folds.{concat-append}
 use Rattle.encoding.specs.Code.{Code}
 use Rattle.command.specs.Lines.{line_of}
 use Rattle.command.specs.declared.fault.Fault.{Fault}
 use Rattle.carrier.specs.declared.carrier.CarrierState.TheVariants.{Closed}
 use Rattle.session.specs.Model.{Model, limit_of}
 use Rattle.session.specs.Outcome.{Outcome, ends, chain, next}
-use Rattle.tally.specs.Observed.{joined, marked}
+use Rattle.tally.specs.Observed.{marked, sent}
 use Rattle.tally.specs.Tally.{Tally, on, cut_short}
 use Rattle.tally.specs.Law.{Said}
-use Rattle.tally.proofs.Cuts.{joined-append, marked_append}
 use Rattle.tally.proofs.Tallies.{tallied, with_more, stays_broken, on_append, on_more, none_more}
 
 -- each line is that of its command
@@ -51,7 +53,7 @@ pub record Does {X : Type 0} (c : Code) (m : Model) (t : Tally) (o : Outcome X) 
   pub spoken : Spoken c saids lines
   pub is : on (with_more took t) (marked lines) ≡ now
   pub tied : Tied c o.after now
-  pub out : o.after.wire.sent ≡ m.wire.sent ++ joined lines
+  pub out : o.after.wire.sent ≡ m.wire.sent ++ concat lines
   pub coming : m.wire.coming ≡ took ++ o.after.wire.coming
   -- once broken, nothing is taken
   pub quiet : t.broken ≡ true → took ≡ []
@@ -121,14 +123,14 @@ module _ {X Y : Type 0} (c : Code) (Q : Result X Fault → List Said → List �
         took = d.took ++ then.took;
         spoken = spoken_append c d.saids then.saids d.lines more d.spoken then.spoken;
         is =
-            ap (λ z. on (with_more (d.took ++ then.took) t) z) (marked_append d.lines more)
+            ap (λ z. on (with_more (d.took ++ then.took) t) z) (map-append sent d.lines more)
             ∙ on_append (with_more (d.took ++ then.took) t) (marked d.lines) (marked more)
             ∙ ap (λ z. on (on (tallied t.limit t.ending t.lines t.unsettled t.given t.broken z) (marked d.lines)) (marked more)) (sym (append_assoc t.left d.took then.took))
             ∙ ap (λ u. on u (marked more)) (on_more _ then.took (marked d.lines) (with_more d.took t) refl quiet)
             ∙ ap (λ u. on (with_more then.took u) (marked more)) d.is
             ∙ then.is;
         tied = then.tied;
-        out = then.out ∙ ap (λ z. z ++ joined more) d.out ∙ append_assoc m.wire.sent (joined d.lines) (joined more) ∙ ap (λ z. m.wire.sent ++ z) (sym (joined-append d.lines more));
+        out = then.out ∙ ap (λ z. z ++ concat more) d.out ∙ append_assoc m.wire.sent (concat d.lines) (concat more) ∙ ap (λ z. m.wire.sent ++ z) (sym (concat-append d.lines more));
         coming = d.coming ∙ ap (λ z. d.took ++ z) then.coming ∙ sym (append_assoc d.took then.took last.wire.coming);
         quiet = λ h. none_two d.took then.took (d.quiet h) (quiet (stays_broken (with_more d.took t) (marked d.lines) h));
         post = then.post;

@@ -1,5 +1,8 @@
 -- Any list of calls, from what one call does. Assumes nothing.
 use Rattle.std.proofs.Common.{◌≡◌, ℕ, List, [], ◌∷◌, ◌++◌, sym, refl, ap, ◌∙◌, subst, append_assoc, append-nil, arith}
+use Rattle.std.specs.List.{concat, flat_map}
+use Rattle.std.proofs.lemmas.Grind.{flat_map-append}
+use Rattle.std.proofs.lemmas.List.Folds.{concat-append}
 use Rattle.link.specs.Wire.{Wire}
 use Rattle.carrier.specs.Deck.{Deck}
 use Rattle.encoding.specs.Code.{Code, Back}
@@ -8,24 +11,20 @@ use Rattle.command.specs.Lines.{text_of}
 use Rattle.session.specs.Model.{Model, Desk, fresh}
 use Rattle.session.specs.Outcome.{Called}
 use Rattle.session.specs.declared.settings.Settings.{Settings}
-use Rattle.tally.specs.Observed.{Shown, Seen, lines_on, lines_in, lines_all, Wholes, joined, texts, marked, by_ask, marks_of, marks_all, taken, shown_after}
+use Rattle.tally.specs.Observed.{Shown, Seen, lines_on, lines_in, lines_all, Wholes, texts, marked, by_ask, marks_of, marks_all, taken, shown_after}
 use Rattle.tally.specs.Tally.{Tally, on, tally}
 use Rattle.tally.specs.Law.{Start, Said, texts_of, handed, Own, Newest, Stands, Replies, tally_of}
 use Rattle.tally.specs.Runs.{made_of, areas_after, shows, seen_of, seen_all, start_of, EveryRun}
-use Rattle.tally.proofs.Cuts.{wholes_append, joined-append, lines_back, grown_is, taken_is}
+use Rattle.tally.proofs.Cuts.{wholes_append, lines_back, grown_is, taken_is}
 use Rattle.tally.proofs.Tallies.{never, with_more, goes_on}
 use Rattle.tally.proofs.Logic.{Spoken, Tied}
 use Rattle.tally.proofs.Ended.{Moved}
 use Rattle.tally.proofs.Moves.{moves}
 use Rattle.tally.specs.Asked.{Made, Verdict}
 
-marks_push : (ss : List Seen) (s : Seen) → marks_all (ss ++ (s ∷ [])) ≡ marks_all ss ++ marks_of s
-marks_push [] s = append-nil (marks_of s)
-marks_push (x ∷ ss) s = ap (λ z. marks_of x ++ z) (marks_push ss s) ∙ sym (append_assoc (marks_of x) (marks_all ss) (marks_of s))
-
-lines_push : (ss : List Seen) (s : Seen) → lines_all (ss ++ (s ∷ [])) ≡ lines_all ss ++ lines_in s
-lines_push [] s = append-nil (lines_in s)
-lines_push (x ∷ ss) s = ap (λ z. lines_in x ++ z) (lines_push ss s) ∙ sym (append_assoc (lines_in x) (lines_all ss) (lines_in s))
+-- what is gathered of a list with one more behind it
+gathered_push : {A : Type 0} (f : Seen → List A) (ss : List Seen) (s : Seen) → flat_map f (ss ++ (s ∷ [])) ≡ flat_map f ss ++ f s
+gathered_push f ss s = flat_map-append f ss (s ∷ []) ∙ ap (λ z. flat_map f ss ++ z) (append-nil (f s))
 
 shown_push : (n : Shown) (ss : List Seen) (s : Seen) → shown_after n (ss ++ (s ∷ [])) ≡ s.after
 shown_push n [] s = refl
@@ -37,7 +36,7 @@ pub record Along (s : Start) (m : Model) (ss : List Seen) (t : Tally) : Type 0 w
   pub coming : s.new.wire.coming ≡ bytes ++ m.wire.coming
   pub is : tally s.limit s.new.wire.ending (marks_all ss) bytes ≡ t
   pub tied : Tied s.code m t
-  pub sent : m.wire.sent ≡ s.new.wire.sent ++ joined (lines_all ss)
+  pub sent : m.wire.sent ≡ s.new.wire.sent ++ concat (lines_all ss)
   pub whole : Wholes (lines_all ss)
   pub shown : shown_after s.new ss ≡ shows m
 
@@ -75,7 +74,7 @@ module _ (s : Start) (back : Back s.code) where
   -- what is observed of it is what it sent
   module _ (k : Made) (m : Model) (d : Desk) (t : Tally) (moved : Moved s.code k.ask m t (made_of k m d)) where
     lines_seen : lines_in (seen_of k m d) ≡ moved.lines
-    lines_seen = ap (lines_on []) (grown_is m.wire (made_of k m d).after.wire (joined moved.lines) moved.out) ∙ lines_back moved.lines (spoken_whole s.code moved.saids moved.lines moved.spoken)
+    lines_seen = ap (lines_on []) (grown_is m.wire (made_of k m d).after.wire (concat moved.lines) moved.out) ∙ lines_back moved.lines (spoken_whole s.code moved.saids moved.lines moved.spoken)
 
     marks_seen : marks_of (seen_of k m d) ≡ marked moved.lines ++ by_ask k.ask (made_of k m d).answer
     marks_seen = ap (λ z. marked z ++ by_ask k.ask (made_of k m d).answer) lines_seen
@@ -88,18 +87,18 @@ module _ (s : Start) (back : Back s.code) where
           bytes = h.bytes ++ moved.took;
           coming = h.coming ∙ ap (λ z. h.bytes ++ z) moved.coming ∙ sym (append_assoc h.bytes moved.took o.after.wire.coming);
           is =
-              ap (λ z. tally s.limit s.new.wire.ending z (h.bytes ++ moved.took)) (marks_push ss (seen_of k m d) ∙ ap (λ z. marks_all ss ++ z) marks_seen)
+              ap (λ z. tally s.limit s.new.wire.ending z (h.bytes ++ moved.took)) (gathered_push marks_of ss (seen_of k m d) ∙ ap (λ z. marks_all ss ++ z) marks_seen)
               ∙ goes_on s.limit s.new.wire.ending (marks_all ss) (marked moved.lines ++ by_ask k.ask o.answer) h.bytes moved.took (λ e. moved.quiet (sym (ap (λ u. u.broken) h.is) ∙ e))
               ∙ ap (λ u. on (with_more moved.took u) (marked moved.lines ++ by_ask k.ask o.answer)) h.is
               ∙ moved.is;
           tied = moved.tied;
           sent =
               moved.out
-              ∙ ap (λ z. z ++ joined moved.lines) h.sent
-              ∙ append_assoc s.new.wire.sent (joined (lines_all ss)) (joined moved.lines)
-              ∙ ap (λ z. s.new.wire.sent ++ z) (sym (joined-append (lines_all ss) moved.lines) ∙ ap (λ z. joined (lines_all ss ++ z)) (sym lines_seen) ∙ ap joined (sym (lines_push ss (seen_of k m d))));
+              ∙ ap (λ z. z ++ concat moved.lines) h.sent
+              ∙ append_assoc s.new.wire.sent (concat (lines_all ss)) (concat moved.lines)
+              ∙ ap (λ z. s.new.wire.sent ++ z) (sym (concat-append (lines_all ss) moved.lines) ∙ ap (λ z. concat (lines_all ss ++ z)) (sym lines_seen) ∙ ap concat (sym (gathered_push lines_in ss (seen_of k m d))));
           whole =
-              subst Wholes (ap (λ z. lines_all ss ++ z) (sym lines_seen) ∙ sym (lines_push ss (seen_of k m d)))
+              subst Wholes (ap (λ z. lines_all ss ++ z) (sym lines_seen) ∙ sym (gathered_push lines_in ss (seen_of k m d)))
               (wholes_append (lines_all ss) moved.lines h.whole (spoken_whole s.code moved.saids moved.lines moved.spoken));
           shown = shown_push s.new ss (seen_of k m d);
         }

@@ -14,9 +14,10 @@ use Rattle.reply.specs.declared.reply.Reply.{Reply}
 use Rattle.session.specs.declared.plain.Plain.{Plain as PlainCommand}
 use Rattle.session.specs.declared.plain.Plain.TheVariants.{Cwd as DoCwd, Cdup as DoCdup, Dele as DoDele, Rmd as DoRmd, Mkd as DoMkd, Noop as DoNoop, Quit as DoQuit}
 use Rattle.std.specs.Borrow.{Bor}
+use Rattle.std.specs.List.{concat}
 use Rattle.std.specs.Str.{bytes_eq}
 use Rattle.tally.specs.declared.calls.Ask.TheVariants.{Greet, Login, Plain, Rename, TransferType, Resume}
-use Rattle.tally.specs.Observed.{Shown, Seen, lines_in, lines_all, Wholes, joined, texts, marks_all, taken, shown_after}
+use Rattle.tally.specs.Observed.{Shown, Seen, lines_in, lines_all, Wholes, texts, marks_all, taken, shown_after}
 use Rattle.tally.specs.Tally.{Given, Tally, tally, cut_short}
 use Rattle.tally.specs.Asked.{Asked, Verdict}
 
@@ -124,7 +125,7 @@ Newest t u O (Some r) front = (n : ℕ) × O n × ((before : List Given) × (u.g
 -- after some calls: s is where they started, n what the session shows now, ss what was seen, and t the tally over it
 pub record Stands (s : Start) (n : Shown) (ss : List Seen) (t : Tally) : Type 0 where
   -- the bytes sent since the start are whole lines
-  pub a_sent : n.wire.sent ≡ s.new.wire.sent ++ joined (lines_all ss)
+  pub a_sent : n.wire.sent ≡ s.new.wire.sent ++ concat (lines_all ss)
   pub a_whole : Wholes (lines_all ss)
   -- the bytes taken are exactly the replies that the tally gave out
   pub b_taken : s.new.wire.coming ≡ taken s.new.wire n.wire ++ n.wire.coming

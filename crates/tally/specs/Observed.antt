@@ -1,6 +1,7 @@
 -- What may be observed of a run: each call with its answer, and what the session shows before and after it. The lines sent
 -- are read back from the bytes, and so is the text of each. Assumes nothing.
-use Rattle.std.specs.Prelude.{ℕ, ◌-◌, cond, List, [], ◌∷◌, ◌++◌, length, take, drop, Some, None, Ok, Err, ◌==◌, nat_le}
+use Rattle.std.specs.Prelude.{ℕ, ◌-◌, cond, List, [], ◌∷◌, ◌++◌, length, map, take, drop, Some, None, Ok, Err, ◌==◌, nat_le}
+use Rattle.std.specs.List.{flat_map}
 use Rattle.link.specs.Wire.{Wire}
 use Rattle.encoding.specs.Code.{Code}
 use Rattle.command.specs.Laws.{Whole}
@@ -45,26 +46,19 @@ abbrev pub lines_in : Seen → List (List ℕ)
 lines_in s = lines_on [] (grown s.before.wire s.after.wire)
 
 abbrev pub lines_all : List Seen → List (List ℕ)
-lines_all [] = []
-lines_all (s ∷ ss) = lines_in s ++ lines_all ss
+lines_all = flat_map lines_in
 
 -- CR LF at the end of each line and neither before it
 abbrev pub Wholes : List (List ℕ) → Type 0
 Wholes [] = Unit {0}
 Wholes (l ∷ ls) = Whole l × Wholes ls
 
-abbrev pub joined : List (List ℕ) → List ℕ
-joined [] = []
-joined (l ∷ ls) = l ++ joined ls
-
 -- what each line says: with doubled 255s made single, decoded
 abbrev pub texts : Code → List (List ℕ) → List (List ℕ)
-texts c [] = []
-texts c (l ∷ ls) = c.decode (unescape l) ∷ texts c ls
+texts c = map (λ l. c.decode (unescape l))
 
 abbrev pub marked : List (List ℕ) → List Mark
-marked [] = []
-marked (l ∷ ls) = sent l ∷ marked ls
+marked = map sent
 
 -- a greet passed its first questions unless its number is up to 5
 abbrev pub greeting_by : Verdict → List Mark
@@ -84,8 +78,7 @@ abbrev pub marks_of : Seen → List Mark
 marks_of s = marked (lines_in s) ++ by_ask s.ask s.answer
 
 abbrev pub marks_all : List Seen → List Mark
-marks_all [] = []
-marks_all (s ∷ ss) = marks_of s ++ marks_all ss
+marks_all = flat_map marks_of
 
 -- the bytes taken between two meanings of a link
 abbrev pub taken : Wire → Wire → List ℕ

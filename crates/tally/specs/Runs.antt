@@ -1,5 +1,5 @@
 -- A list of calls made one after another, and what is seen of them. Assumes nothing.
-use Rattle.std.specs.Prelude.{min, List, [], ◌∷◌, ◌++◌, length, take, drop, Some, None, Ok, Err, Result}
+use Rattle.std.specs.Prelude.{min, List, [], ◌∷◌, ◌++◌, length, map, take, drop, Some, None, Ok, Err, Result}
 use Rattle.link.specs.Wire.{Wire}
 use Rattle.carrier.specs.Deck.{Deck}
 use Rattle.encoding.specs.Code.{Code, Back}
@@ -70,8 +70,7 @@ abbrev pub row_of : Seen → Row
 row_of s = record { answer = s.answer; kept = s.after.kept; carrier = s.after.carrier }
 
 abbrev pub rows_of : List Seen → List Row
-rows_of [] = []
-rows_of (s ∷ ss) = row_of s ∷ rows_of ss
+rows_of = map row_of
 
 -- rows written over others from the front, as far as there are any
 abbrev pub noted : List Row → List Row → List Row
