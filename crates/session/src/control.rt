@@ -1,5 +1,5 @@
 // The pieces that calls are made of: the first questions, a line, a reply, and a line with its reply.
-ghost use Rattle.std.specs.Prelude.{◌≡◌, Some};
+ghost use Rattle.std.specs.Prelude.{◌≡◌, Some, MatchResult};
 ghost use Rattle.std.specs.Option.{option_map};
 ghost use Rattle.session.specs.Model.{model};
 ghost use Rattle.session.specs.Areas.{desk_of, SameAreas, Serve};
@@ -40,6 +40,13 @@ fn refused(why: Refusal) -> Fault
     ensures { result ≡ refusal why }
 {
     fault_with(why, None, nothing_read())
+}
+
+// What came of a line, a refusal as the fault that the call answers.
+fn at_line<T>(came: Result<T, Refusal>, verb: Verb, last: Reply) -> Result<T, Fault>
+    ensures { MatchResult came (λ x. result ≡ Ok x) (λ e. result ≡ Err (fault e (Some verb) last)) }
+{
+    came.map_err(|refusal| fault_with(refusal, Some(verb), last))
 }
 
 // The reply itself, if its status is one of those expected.
@@ -100,14 +107,11 @@ impl<L: Link, C: Carrier, E: Encoding> Session<L, C, E> {
         ensures kept { self.new.kept ≡ self.old.kept }
         ensures same { SameAreas areas.old areas.new }
     {
-        let verb = Some(command.verb);
-        match encode_line(command, &self.encoding, areas.wide, areas.narrow) {
-            Ok(length) => match self.link.put(&areas.wide[0..length]) {
-                Ok(()) => Ok(()),
-                Err(_) => Err(fault_with(Refusal::LinkFull, verb, last)),
-            },
-            Err(refusal) => Err(fault_with(refusal, verb, last)),
-        }
+        let verb = command.verb;
+        let line = encode_line(command, &self.encoding, areas.wide, areas.narrow);
+        let length = at_line(line, verb, last)?;
+        let sent = self.link.put(&areas.wide[0..length]);
+        at_line(sent.or(Err(Refusal::LinkFull)), verb, last)
     }
 
     // Reads one reply. One that is not finished leaves the session out of step.

@@ -1,23 +1,19 @@
-use Rattle.std.proofs.Common.{Err, ap, ◌∙◌}
-use Rattle.session.specs.Model.{model, with_wire}
-use Rattle.session.specs.Outcome.{ends}
-use Rattle.session.proofs.Sending.{serves, is_sent, is_refused, is_unmade}
+use Rattle.std.proofs.Common.{◌∙◌}
+use Rattle.std.proofs.lemmas.Result.{err_from_is_err_and}
+use Rattle.session.specs.Model.{model}
+use Rattle.session.proofs.Sending.{serves, unmade, made_of, put_by}
 use Rattle.session.proofs.session.Session.perform.Goals as goal
 
-pub returns-in-Ok-put-clause-came : goal.returns-in-Ok-put-clause-came
-returns-in-Ok-put-clause-came g c =
+pub returns-in_err-length-clause-came : goal.returns-in_err-length-clause-came
+returns-in_err-length-clause-came g c =
     let m = model g.L.Link.means g.C.Carrier.means g.E.Encoding.means c.args.self.now in
-    let line = c.in-Ok.ensures.line ∙ serves _ _ _ c.requires.wide c.requires.narrow in
-    is_sent _ _ c.args.last m c.args.areas.now.reply.now c.in-Ok.length c.encode_line.new.wide line _ c.put.ensures.after c.in-Ok-put.ensures.value
+    let line = c.encode_line-line.ensures.line ∙ serves _ _ _ c.requires.wide c.requires.narrow in
+    let p = err_from_is_err_and c.from_residual.result c.from_residual.ensures.1 in
+    unmade _ _ c.args.last m c.args.areas.now.reply.now c.encode_line-line.result c.encode_line-line.new.wide c.at_line.result line c.at_line.ensures _ c.in_err-length.was _ p.2 _ p.1
 
-pub returns-in-Err-put-clause-came : goal.returns-in-Err-put-clause-came
-returns-in-Err-put-clause-came g c =
+pub returns-clause-came : goal.returns-clause-came
+returns-clause-came g c =
     let m = model g.L.Link.means g.C.Carrier.means g.E.Encoding.means c.args.self.now in
-    let line = c.in-Ok.ensures.line ∙ serves _ _ _ c.requires.wide c.requires.narrow in
-    ap (λ e. ends (Err e) (with_wire (g.L.Link.means c.put.new.self) m) c.args.areas.now.reply.now) c.fault_with.ensures ∙ is_refused _ _ c.args.last m c.args.areas.now.reply.now c.in-Ok.length c.encode_line.new.wide line _ _ c.put.ensures.after c.in-Err-put.ensures.value
-
-pub returns-in-Err-clause-came : goal.returns-in-Err-clause-came
-returns-in-Err-clause-came g c =
-    let m = model g.L.Link.means g.C.Carrier.means g.E.Encoding.means c.args.self.now in
-    let line = c.in-Err.ensures.line ∙ serves _ _ _ c.requires.wide c.requires.narrow in
-    ap (λ e. ends (Err e) m c.args.areas.now.reply.now) c.fault_with-in-Err.ensures ∙ is_unmade _ _ c.args.last m c.args.areas.now.reply.now c.in-Err.refusal line
+    let line = c.encode_line-line.ensures.line ∙ serves _ _ _ c.requires.wide c.requires.narrow in
+    let made = made_of _ _ c.args.last m c.args.areas.now.reply.now c.encode_line-line.result c.encode_line-line.new.wide c.at_line.result line c.at_line.ensures _ c.in_ok-length.was in
+    put_by _ _ c.args.last m c.args.areas.now.reply.now c.in_ok-length.length c.encode_line-line.new.wide made _ c.put-sent.ensures.after _ c.put-sent.ensures.value _ c.or.ensures _ c.at_line-2.ensures
