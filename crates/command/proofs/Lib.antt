@@ -1,4 +1,3 @@
-pub mod Breaks
 pub mod Escapes
 pub mod Pushes
 pub mod Texts
