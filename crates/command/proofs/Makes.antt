@@ -12,7 +12,6 @@ use Rattle.command.specs.declared.refusal.Refusal.{Refusal}
 use Rattle.command.specs.declared.refusal.Refusal.TheVariants.{AreaTooShort, ArgumentTooLong, ArgumentNotUtf8, ArgumentNotOneLine}
 use Rattle.command.specs.declared.verb.Verb.{Verb}
 use Rattle.command.specs.declared.verb.Verb.TheVariants.{User, Pass, Cwd, Cdup, Dele, Rmd, Mkd, Rnfr, Rnto, «Type» as SetType, Noop, Quit}
-use Rattle.command.proofs.Texts.{text_length}
 
 pub unless_ok : {A : Type 0} (why : Option Refusal) (r : Result A Refusal) (x : Unit {0}) → Ok x ≡ unless why (Ok tt) → unless why r ≡ r
 unless_ok None r x e = refl
@@ -49,34 +48,6 @@ unfolding line_of
 line_from_text code verb o before wide r n x e wrote is =
     let text = filled_some (text_of verb o) before wide n (ap (λ (a : Option ℕ). record { answer = a; area = wide }) (sym is) ∙ wrote) in
     ap (λ t. encoded (code.encode t)) text ∙ sym (unless_ok (argument_refused o) (encoded (code.encode (text_of verb o))) x e)
-
-word_short : (verb : Verb) → length (word verb) ≤ 4
-word_short User = lit≤ tt
-word_short Pass = lit≤ tt
-word_short Cwd = lit≤ tt
-word_short Cdup = lit≤ tt
-word_short Dele = lit≤ tt
-word_short Rmd = lit≤ tt
-word_short Mkd = lit≤ tt
-word_short Rnfr = lit≤ tt
-word_short Rnto = lit≤ tt
-word_short SetType = lit≤ tt
-word_short Noop = lit≤ tt
-word_short Quit = lit≤ tt
-
-spaced_short : (o : Option (List ℕ)) (x : Unit {0}) → Ok x ≡ unless (argument_refused o) (Ok tt) → length (spaced o) ≤ 4097
-spaced_short None x e = lit≤ tt
-spaced_short (Some argument) x e = go (leb (length argument) 4096) refl e
-  where
-    go : (b : Bool) → leb (length argument) 4096 ≡ b
-        → Ok x ≡ unless (cond b (cond (utf8 argument) (cond (one_line argument) None (Some ArgumentNotOneLine)) (Some ArgumentNotUtf8)) (Some ArgumentTooLong)) (Ok tt)
-        → length (spaced (Some argument)) ≤ 4097
-    go true fits e = omega (arith, leb-true _ _ fits)
-    go false fits e = let z : ◌≡◌ {A = ℕ} 0 1 = cc in absurd (omega arith)
-
--- the text of a line whose argument passed is short
-pub text_short : (verb : Verb) (o : Option (List ℕ)) (x : Unit {0}) → Ok x ≡ unless (argument_refused o) (Ok tt) → length (text_of verb o) ≤ 4103
-text_short verb o x e = omega (arith, text_length verb o, word_short verb, spaced_short o x e)
 
 pub escape_short : (line : List ℕ) → length (escape line) ≤ 2 * length line
 escape_short [] = lit≤ tt
