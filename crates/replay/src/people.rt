@@ -62,8 +62,7 @@ fn print_two(rt: &HostRuntime, name: &str, first: &[u8], second: &[u8]) -> anyho
 }
 
 fn print_type(rt: &HostRuntime, name: &str, file_type: FileType) -> anyhow::Result<()> {
-    let (text, length) = file_type.text();
-    let written = readable(rt.alloc(), front(&text, length))?;
+    let written = readable(rt.alloc(), file_type.text().as_slice())?;
     println!(rt; "{name} {written}")?;
     Ok(())
 }

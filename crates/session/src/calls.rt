@@ -169,8 +169,8 @@ impl<L: Link, C: Carrier, E: Encoding> Session<L, C, E> {
         ensures { record { answer = result; after = model L.Link.means C.Carrier.means E.Encoding.means self.new; desk = desk reply.new wide.new narrow.new } ≡ type_of file_type (model L.Link.means C.Carrier.means E.Encoding.means self.old) (desk reply.old wide.old narrow.old) }
     {
         self.questions(true, reply, wide, narrow)?;
-        let (text, length) = file_type.text();
-        let command = with_argument(Verb::Type, &text[0..length]);
+        let text = file_type.text();
+        let command = with_argument(Verb::Type, text.as_slice());
         let answer = self.exchange(
             command,
             &[Status::CommandOk],
