@@ -1,7 +1,2 @@
-pub mod Breaks
-pub mod Escapes
-pub mod Pushes
-pub mod Texts
 pub mod Makes
-pub mod Decimals
 pub mod Sent

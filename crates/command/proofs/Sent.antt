@@ -1,5 +1,5 @@
 -- Every line that is sent is whole and short and reads back, whichever the encoding. Assumes nothing.
-use Rattle.std.proofs.Common.{◌≡◌, ℕ, ◌+◌, ◌-◌, ◌<◌, ◌≤◌, Bool, true, false, cond, eqb, leb, List, [], ◌∷◌, ◌++◌, length, get_or, take, drop, Some, None, Ok, Err, Option, Result, sym, refl, ap, ◌∙◌, arith}
+use Rattle.std.proofs.Common.{◌≡◌, ℕ, ◌+◌, ◌-◌, ◌<◌, ◌≤◌, Bool, true, false, cond, not, ◌&&◌, eqb, leb, List, [], ◌∷◌, ◌++◌, length, get_or, take, drop, Some, None, Ok, Err, Option, Result, sym, refl, ap, ◌∙◌, arith}
 use Rattle.std.proofs.lemmas.List.{take-append-drop, drop_more, drop_all}
 use Rattle.std.proofs.lemmas.Bool.{and_parts, or_parts, leb-true, eqb-true}
 use Rattle.encoding.specs.Code.{Code, Back}
@@ -37,7 +37,7 @@ plain_escape (b ∷ bs) h = first (λ e. plain_escape bs e) (breaks_line b) refl
     rest true e more = (refl, refl, (refl, refl, more))
     rest false e more = let p = or_parts (eqb b 13) (eqb b 10) e in (p.0, p.1, more)
 
-    first : (one_line bs ≡ true → Plain (escape bs)) → (t : Bool) → breaks_line b ≡ t → cond t false (one_line bs) ≡ true → Plain (cond (eqb b 255) (255 ∷ 255 ∷ escape bs) (b ∷ escape bs))
+    first : (one_line bs ≡ true → Plain (escape bs)) → (t : Bool) → breaks_line b ≡ t → (not t && one_line bs) ≡ true → Plain (cond (eqb b 255) (255 ∷ 255 ∷ escape bs) (b ∷ escape bs))
     first more true e h = let z : ◌≡◌ {A = ℕ} 0 1 = cc in absurd (omega arith)
     first more false e h = rest (eqb b 255) e (more h)
 

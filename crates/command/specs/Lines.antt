@@ -1,14 +1,21 @@
 -- Command lines (RFC 959, sections 4.1 and 5.3), what each is asked before it is sent, and how byte 255 goes over the wire
 -- (RFC 854). Assumes nothing.
-use Rattle.std.specs.Prelude.{ℕ, ◌-◌, Bool, true, false, cond, ◌&&◌, ◌||◌, List, [], ◌∷◌, ◌++◌, length, take, Some, None, Ok, Err, Option, Result, ◌==◌, nat_le, slice_index}
+use Rattle.std.specs.Prelude.{ℕ, ◌-◌, Bool, true, false, cond, not, ◌&&◌, ◌||◌, List, [], ◌∷◌, ◌++◌, length, take, Some, None, Ok, Err, Option, Result, ◌==◌, nat_le, slice_index}
 use Rattle.encoding.specs.Code.{Code}
 use Rattle.std.specs.Str.{bytes_eq}
 use Rattle.text.specs.Utf8.{utf8}
 use Rattle.command.specs.Verbs.{word}
+use Rattle.std.specs.List.{list_all}
+use Rattle.std.specs.Option.{option_map}
+use Rattle.command.specs.declared.line.Command.{Command}
 use Rattle.command.specs.declared.refusal.Refusal.{Refusal}
 use Rattle.command.specs.declared.refusal.Refusal.TheVariants.{AreaTooShort, ArgumentTooLong, ArgumentNotUtf8, ArgumentNotOneLine, NoEncoding, LineNotEnded, LineNotOne}
 use Rattle.command.specs.declared.verb.Verb.{Verb}
 use Rattle.command.specs.declared.verb.Verb.TheVariants.{User, Pass, Cwd, Cdup, Dele, Rmd, Mkd, Rnfr, Rnto, «Type» as SetType, Noop, Quit}
+
+-- a command's argument, if it has one
+abbrev pub argument_of : Command → Option (List ℕ)
+argument_of command = option_map (λ x. x.now) command.argument
 
 -- an argument with the space before it; an empty argument is an argument
 abbrev pub spaced : Option (List ℕ) → List ℕ
@@ -44,8 +51,7 @@ breaks_line b = b == 13 || b == 10
 
 -- free of CR and LF
 abbrev pub one_line : List ℕ → Bool
-one_line [] = true
-one_line (b ∷ bs) = cond (breaks_line b) false (one_line bs)
+one_line bs = list_all (λ b. not (breaks_line b)) bs
 
 -- whether the last two bytes are CR and LF
 abbrev pub line_ended : List ℕ → Bool

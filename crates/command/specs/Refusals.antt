@@ -1,10 +1,11 @@
--- The refusals' numbers, and the layer that each belongs to. Assumes nothing.
-use Rattle.std.specs.Prelude.{ℕ}
+-- The refusals' numbers, the layer that each belongs to, and the layers' words. Assumes nothing.
+use Rattle.std.specs.Prelude.{ℕ, List, codes}
 use Rattle.command.specs.declared.refusal.Refusal.{Refusal}
 use Rattle.command.specs.declared.refusal.Refusal.TheVariants.{AreaTooShort, OutOfStep, GreetingDue, TransferOpen, NoTransfer, ArgumentTooLong, ArgumentNotUtf8, ArgumentNotOneLine, NoEncoding, LineNotEnded, LineNotOne, LinkFull, LinkClosed, LinkBroken, ReplyTooLong, ReplyIllBegun, UnexpectedStatus, NoDecoding, BadResponse, UnexpectedResponse, TableFull, NotListening, NotDialled, NoCaller}
 use Rattle.command.specs.declared.refusal.Layer.{Layer}
 use Rattle.command.specs.declared.refusal.Layer.TheVariants.{Session, Line, Link, Reply, Carrier}
 
+-- the place of its question among all, from 1 on
 abbrev pub number_of : Refusal → ℕ
 number_of AreaTooShort = 1
 number_of OutOfStep = 2
@@ -31,6 +32,7 @@ number_of NotListening = 22
 number_of NotDialled = 23
 number_of NoCaller = 24
 
+-- the part of the session whose question it fails
 abbrev pub layer_of : Refusal → Layer
 layer_of AreaTooShort = Session
 layer_of OutOfStep = Session
@@ -56,3 +58,11 @@ layer_of TableFull = Reply
 layer_of NotListening = Carrier
 layer_of NotDialled = Carrier
 layer_of NoCaller = Carrier
+
+-- a layer as it is printed
+abbrev pub layer_word : Layer → List ℕ
+layer_word Session = codes "session"
+layer_word Line = codes "line"
+layer_word Link = codes "link"
+layer_word Reply = codes "reply"
+layer_word Carrier = codes "carrier"

@@ -1,36 +1,36 @@
 // Why a call is refused: one case for each question that a call is put, with its number and its layer.
-ghost use Rattle.std.specs.Prelude.{◌≡◌};
-ghost use Rattle.command.specs.Refusals.{number_of, layer_of};
+ghost use Rattle.std.specs.Prelude.{◌≡◌, Some};
+ghost use Rattle.command.specs.Refusals.{number_of, layer_of, layer_word};
 
 use std::fmt;
 
-// The cases in the order of the questions.
+// The cases in the order of the questions, each with its number.
 #[derive(Clone, Copy, PartialEq, Eq, Debug)]
 pub enum Refusal {
-    AreaTooShort,
-    OutOfStep,
-    GreetingDue,
-    TransferOpen,
-    NoTransfer,
-    ArgumentTooLong,
-    ArgumentNotUtf8,
-    ArgumentNotOneLine,
-    NoEncoding,
-    LineNotEnded,
-    LineNotOne,
-    LinkFull,
-    LinkClosed,
-    LinkBroken,
-    ReplyTooLong,
-    ReplyIllBegun,
-    UnexpectedStatus,
-    NoDecoding,
-    BadResponse,
-    UnexpectedResponse,
-    TableFull,
-    NotListening,
-    NotDialled,
-    NoCaller,
+    AreaTooShort = 1,
+    OutOfStep = 2,
+    GreetingDue = 3,
+    TransferOpen = 4,
+    NoTransfer = 5,
+    ArgumentTooLong = 6,
+    ArgumentNotUtf8 = 7,
+    ArgumentNotOneLine = 8,
+    NoEncoding = 9,
+    LineNotEnded = 10,
+    LineNotOne = 11,
+    LinkFull = 12,
+    LinkClosed = 13,
+    LinkBroken = 14,
+    ReplyTooLong = 15,
+    ReplyIllBegun = 16,
+    UnexpectedStatus = 17,
+    NoDecoding = 18,
+    BadResponse = 19,
+    UnexpectedResponse = 20,
+    TableFull = 21,
+    NotListening = 22,
+    NotDialled = 23,
+    NoCaller = 24,
 }
 
 // Which part of the session refused.
@@ -43,22 +43,59 @@ pub enum Layer {
     Carrier,
 }
 
+impl Layer {
+    fn name(self) -> &'static str
+        ensures { result.now ≡ layer_word self }
+    {
+        match self {
+            Layer::Session => "session",
+            Layer::Line => "line",
+            Layer::Link => "link",
+            Layer::Reply => "reply",
+            Layer::Carrier => "carrier",
+        }
+    }
+}
+
+impl fmt::Display for Layer {
+    ghost output = { λ layer. Some (layer_word layer) };
+
+    fn fmt<W: fmt::Write>(&self, f: &mut fmt::Formatter<W>) -> fmt::Result {
+        f.write_str(self.name())
+    }
+}
+
 impl Refusal {
     pub fn number(self) -> u8
         ensures { result ≡ number_of self }
     {
-        self as u8 + 1
+        self as u8
     }
 
     pub fn layer(self) -> Layer
         ensures { result ≡ layer_of self }
     {
-        match self.number() {
-            1..=5 => Layer::Session,
-            6..=11 => Layer::Line,
-            12..=14 => Layer::Link,
-            15..=21 => Layer::Reply,
-            _ => Layer::Carrier,
+        match self {
+            Refusal::AreaTooShort
+            | Refusal::OutOfStep
+            | Refusal::GreetingDue
+            | Refusal::TransferOpen
+            | Refusal::NoTransfer => Layer::Session,
+            Refusal::ArgumentTooLong
+            | Refusal::ArgumentNotUtf8
+            | Refusal::ArgumentNotOneLine
+            | Refusal::NoEncoding
+            | Refusal::LineNotEnded
+            | Refusal::LineNotOne => Layer::Line,
+            Refusal::LinkFull | Refusal::LinkClosed | Refusal::LinkBroken => Layer::Link,
+            Refusal::ReplyTooLong
+            | Refusal::ReplyIllBegun
+            | Refusal::UnexpectedStatus
+            | Refusal::NoDecoding
+            | Refusal::BadResponse
+            | Refusal::UnexpectedResponse
+            | Refusal::TableFull => Layer::Reply,
+            Refusal::NotListening | Refusal::NotDialled | Refusal::NoCaller => Layer::Carrier,
         }
     }
 

@@ -1,6 +1,9 @@
 // The representation types of the TYPE command.
-ghost use Rattle.std.specs.Prelude.{◌≡◌, ◌-◌, ◌≤◌, ◌∷◌, take, drop, replicate, decimal};
+ghost use Rattle.std.specs.Prelude.{◌≡◌, ◌+◌, ◌≤◌, ◌++◌, length, Some};
+ghost use Rattle.arrayvec.specs.ArrayVec.{array_vec_len};
 ghost use Rattle.command.specs.Types.{format_letter, type_text};
+
+use arrayvec::ArrayVec;
 
 // How a text is prepared for printing.
 #[derive(Clone, Copy, PartialEq, Eq, Debug)]
@@ -36,35 +39,26 @@ impl FormatControl {
 }
 
 impl FileType {
-    // TYPE's argument: bytes, and how many of them it has; those behind it are 0.
-    pub fn text(self) -> ([u8; 8], usize)
-        ensures text { take result.1 result.0 ≡ type_text self }
-        ensures short { result.1 ≤ 5 }
-        ensures rest { drop result.1 result.0 ≡ replicate (8 - result.1) 0 }
+    // TYPE's argument.
+    pub fn text(self) -> ArrayVec<u8, 8>
+        ensures text { result.items ≡ type_text self }
+        ensures short { array_vec_len result ≤ 5 }
     {
         match self {
-            FileType::Ascii(control) => ([b'A', b' ', control.letter(), 0, 0, 0, 0, 0], 3),
-            FileType::Ebcdic(control) => ([b'E', b' ', control.letter(), 0, 0, 0, 0, 0], 3),
-            FileType::Image | FileType::Binary => ([b'I', 0, 0, 0, 0, 0, 0, 0], 1),
-            FileType::Local(bits) => local_text(bits),
+            FileType::Ascii(control) => joined(b"A ", &[control.letter()]),
+            FileType::Ebcdic(control) => joined(b"E ", &[control.letter()]),
+            FileType::Image | FileType::Binary => joined(b"I", b""),
+            FileType::Local(bits) => joined(b"L ", itoa::Buffer::new().format(bits).as_bytes()),
         }
     }
 }
 
-// The bits in decimal, which has at most three digits.
-fn local_text(bits: u8) -> ([u8; 8], usize)
-    ensures text { take result.1 result.0 ≡ 76 ∷ 32 ∷ decimal bits }
-    ensures short { result.1 ≤ 5 }
-    ensures rest { drop result.1 result.0 ≡ replicate (8 - result.1) 0 }
+fn joined(front: &[u8], back: &[u8]) -> ArrayVec<u8, 8>
+    requires { length front.now + length back.now ≤ 5 }
+    ensures { result.items ≡ front.now ++ back.now }
 {
-    let ones = b'0' + bits % 10;
-    if bits < 10 {
-        return ([b'L', b' ', ones, 0, 0, 0, 0, 0], 3);
-    }
-    let tens = b'0' + bits / 10 % 10;
-    if bits < 100 {
-        return ([b'L', b' ', tens, ones, 0, 0, 0, 0], 4);
-    }
-    let hundreds = b'0' + bits / 100;
-    ([b'L', b' ', hundreds, tens, ones, 0, 0, 0], 5)
+    let mut text = ArrayVec::new();
+    text.try_extend_from_slice(front).unwrap();
+    text.try_extend_from_slice(back).unwrap();
+    text
 }

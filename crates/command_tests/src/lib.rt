@@ -1,12 +1,11 @@
 // Tests of the command lines on examples, with an encoding that leaves every text as it is.
 #![tactic(auto)]
 
-ghost use Rattle.std.specs.Prelude.{◌≡◌, Some};
-ghost use Rattle.text.specs.Area.{filled};
 ghost use Rattle.command_tests.specs.Asis.{as_is};
 ghost use Rattle.std.proofs.Common.{rules};
 
 use encoding::Encoding;
+use text::{Parts, write_front};
 
 pub struct AsIs;
 
@@ -16,24 +15,12 @@ impl Encoding for AsIs {
     ghost back = { Prim.search rules };
 
     fn encode(&self, text: &[u8], area: &mut [u8]) -> Option<usize> {
-        copy_front(text, area)
+        write_front(Parts(&[text]), area)
     }
 
     fn decode(&self, bytes: &[u8], area: &mut [u8]) -> Option<usize> {
-        copy_front(bytes, area)
+        write_front(Parts(&[bytes]), area)
     }
-}
-
-// Copies the bytes to the front of the area, if they fit.
-fn copy_front(bytes: &[u8], area: &mut [u8]) -> Option<usize>
-    ensures { record { answer = result; area = area.new } ≡ filled (Some bytes.now) area.old }
-{
-    let length = bytes.len();
-    if area.len() < length {
-        return None;
-    }
-    area[0..length].copy_from_slice(bytes);
-    Some(length)
 }
 
 #[cfg(test)]
@@ -120,8 +107,7 @@ mod tests {
     }
 
     fn type_is(rt: &impl Abort, kind: FileType, text: &[u8]) {
-        let (bytes, length) = kind.text();
-        assert!(rt; &bytes[0..length] == text);
+        assert!(rt; kind.text().as_slice() == text);
     }
 
     #[test]
@@ -150,6 +136,13 @@ mod tests {
     fn refusals_have_words(rt: HostRuntime) -> Result<(), Fail> {
         let text = format!(in rt.alloc(); "{}: {}", Verb::Cwd, Refusal::ArgumentNotUtf8)?;
         assert!(rt; text.as_str() == "CWD: the argument is not well-formed UTF-8");
+        Ok(())
+    }
+
+    #[test]
+    fn layers_have_words(rt: HostRuntime) -> Result<(), Fail> {
+        let text = format!(in rt.alloc(); "{}, {}", Layer::Session, Layer::Carrier)?;
+        assert!(rt; text.as_str() == "session, carrier");
         Ok(())
     }
 }

@@ -9,23 +9,22 @@ struct Sample(&'static [u8], &'static [u8]);
 // Whether the bytes are decoded to the text, in as much of the area as that fills.
 fn fills(sample: Sample, area: &mut [u8]) -> bool {
     let Sample(bytes, text) = sample;
-    let length = text.len();
-    if area.len() < length {
+    let Some(area) = area.get_mut(..text.len()) else {
         return false;
-    }
-    let count = Utf8Encoding.decode(bytes, &mut area[0..length]);
-    count == Some(length) && &area[0..length] == text
+    };
+    Utf8Encoding.decode(bytes, area) == Some(text.len()) && &*area == text
 }
 
 // Whether one byte less is refused.
 fn refuses_less(sample: Sample, area: &mut [u8]) -> bool {
     let Sample(bytes, text) = sample;
-    let length = text.len();
-    if area.len() < length || length == 0 {
+    let Some((_, less)) = text.split_last() else {
         return false;
-    }
-    let count = Utf8Encoding.decode(bytes, &mut area[0..length - 1]);
-    count.is_none()
+    };
+    let Some(area) = area.get_mut(..less.len()) else {
+        return false;
+    };
+    Utf8Encoding.decode(bytes, area).is_none()
 }
 
 // Whether the bytes are decoded to the text, and an area that is short of a byte is left as it was.

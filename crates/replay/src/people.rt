@@ -37,8 +37,8 @@ fn print_call(rt: &HostRuntime, ask: &OwnedAsk) -> anyhow::Result<()> {
         }
         OwnedAsk::Resume(offset) => println!(rt; "{name} at {offset}")?,
         OwnedAsk::TransferType(file_type) => {
-            let (text, length) = file_type.text();
-            let written = Readable(front(&text, length));
+            let text = file_type.text();
+            let written = Readable(text.as_slice());
             println!(rt; "{name} {written}")?;
         }
         OwnedAsk::Greet | OwnedAsk::Cdup | OwnedAsk::Noop | OwnedAsk::Quit => println!(rt;

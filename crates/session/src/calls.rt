@@ -126,8 +126,8 @@ impl<L: Link, C: Carrier, E: Encoding> Session<L, C, E> {
         ensures same { SameAreas areas.old areas.new }
     {
         self.questions(true, areas)?;
-        let (text, length) = file_type.text();
-        let command = with_argument(Verb::Type, &text[0..length]);
+        let text = file_type.text();
+        let command = with_argument(Verb::Type, text.as_slice());
         let answer = self.exchange(command, &[Status::CommandOk], nothing_read(), areas);
         areas.wipe();
         answer

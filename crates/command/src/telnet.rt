@@ -1,0 +1,94 @@
+// Byte 255 doubled, as Telnet sends it, and made single again.
+ghost use Rattle.std.specs.Prelude.{◌≡◌, Some};
+ghost use Rattle.std.specs.Iterator.{item_count};
+ghost use Rattle.text.specs.Area.{filled, Spells};
+ghost use Rattle.command.specs.Lines.{escape, unescape};
+
+use std::slice;
+use text::{Pieces, write_front};
+
+// Telnet's "interpret as command" byte, which stands for itself where it is doubled.
+const IAC: u8 = 255;
+
+// A line with each 255 doubled, which comes a byte or a pair at a time.
+#[derive(Clone, Copy)]
+pub(crate) struct Escaped<'a>(pub(crate) &'a [u8]);
+
+impl<'a> Iterator for Escaped<'a> {
+    type Item = &'a [u8];
+
+    ghost next_gives = { Spells (λ s. escape s.0.now) };
+
+    ghost remaining = { item_count (λ s. s.0.now) };
+
+    fn next(&mut self) -> Option<&'a [u8]> {
+        let [first, rest @ ..] = self.0 else {
+            return None;
+        };
+        self.0 = rest;
+        if *first == IAC {
+            Some(&[IAC, IAC])
+        } else {
+            Some(slice::from_ref(first))
+        }
+    }
+}
+
+impl<'a> Pieces<'a> for Escaped<'a> {
+    ghost bytes = { λ s. escape s.0.now };
+
+    ghost always = { λ _. tt };
+
+    ghost ends = { λ _. tt };
+
+    ghost spells = { λ s r t h. h };
+}
+
+// Bytes with each pair of 255s made single, which come one at a time.
+#[derive(Clone, Copy)]
+struct Unescaped<'a>(&'a [u8]);
+
+impl<'a> Iterator for Unescaped<'a> {
+    type Item = &'a [u8];
+
+    ghost next_gives = { Spells (λ s. unescape s.0.now) };
+
+    ghost remaining = { item_count (λ s. s.0.now) };
+
+    fn next(&mut self) -> Option<&'a [u8]> {
+        let [first, rest @ ..] = self.0 else {
+            return None;
+        };
+        self.0 = match rest {
+            [IAC, others @ ..] if *first == IAC => others,
+            _ => rest,
+        };
+        Some(slice::from_ref(first))
+    }
+}
+
+impl<'a> Pieces<'a> for Unescaped<'a> {
+    ghost bytes = { λ s. unescape s.0.now };
+
+    ghost always = { λ _. tt };
+
+    ghost ends = { λ _. tt };
+
+    ghost spells = { λ s r t h. h };
+}
+
+// Escapes Telnet's IAC byte in a line of the control connection: a 255 is sent twice. The escaped line goes to the front
+// of the area; where it does not fit, the area stays as it was.
+pub fn escape_telnet_iac(line: &[u8], area: &mut [u8]) -> Option<usize>
+    ensures { record { answer = result; area = area.new } ≡ filled (Some (escape line.now)) area.old }
+{
+    write_front(Escaped(line), area)
+}
+
+// Collapses doubled IAC bytes, in pairs from the left; a lone one stays, for servers that send it literally. What results
+// goes to the front of the area; where it does not fit, the area stays as it was.
+pub fn unescape_telnet_iac(bytes: &[u8], area: &mut [u8]) -> Option<usize>
+    ensures { record { answer = result; area = area.new } ≡ filled (Some (unescape bytes.now)) area.old }
+{
+    write_front(Unescaped(bytes), area)
+}
