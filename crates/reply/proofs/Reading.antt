@@ -1,5 +1,5 @@
 -- The loops that read a line and a reply: what they keep, and what each way out of them owes. Assumes nothing.
-use Rattle.std.proofs.Common.{◌≡◌, ℕ, ◌+◌, ◌-◌, ◌<◌, ◌≤◌, true, false, cond, eqb, leb, List, [], ◌∷◌, ◌++◌, length, get_or, take, drop, set, Some, None, Ok, Err, Option, Result, sym, refl, ap, ◌∙◌, subst, ap₂, arith}
+use Rattle.std.proofs.Common.{◌≡◌, ℕ, Bool, ◌+◌, ◌-◌, ◌<◌, ◌≤◌, true, false, cond, eqb, leb, List, [], ◌∷◌, ◌++◌, length, get_or, take, drop, set, Some, None, Ok, Err, Option, Result, sym, refl, ap, ◌∙◌, subst, ap₂, arith}
 use Rattle.std.proofs.lemmas.List.{drop-drop, drop_more, length-append, length-drop, length-take, length-take-le, take_at, take_more, take-append-drop}
 use Rattle.std.proofs.lemmas.Slice.{between_from_start, between_is, drop-append-drop}
 use Rattle.std.proofs.lemmas.Bool.{eq-eqb, ne_eqb, lt-leb}
@@ -14,7 +14,7 @@ use Rattle.command.specs.declared.verb.Verb.{Verb}
 use Rattle.reply.specs.declared.reply.Reply.{Reply}
 use Rattle.reply.specs.declared.reply.Rule.{Rule}
 use Rattle.reply.specs.declared.lines.Last.{Last}
-use Rattle.reply.specs.Lines.{Place, at_first, at_later, Judged, ill_begins, it_ends, it_goes_on, begun, last_of, ender, said, judge_by, judge}
+use Rattle.reply.specs.Lines.{Place, at_first, at_later, Judged, ill_begins, it_ends, it_goes_on, begun, last_of, settled, ender, said, judge_by, judge}
 use Rattle.reply.specs.Replies.{Unread, unread, cut, by_line, reply_on, reply, LineCut, line_cut, line_on, line_answered, reached, read_on, count, fault_of, came, answered, heard}
 use Rattle.reply.proofs.CutLines.{LineFacts, line_facts, by_lines, behind_line}
 
@@ -197,13 +197,21 @@ module _ (rule : Rule) (area₀ : List ℕ) (w₀ : Wire) (verb : Option Verb) w
 
 -- What a line says, by the tests that were made of it.
 
-pub ill_first : (rule : Rule) (xs : List ℕ) (n : ℕ) → begun (take n xs) ≡ false → judge (at_first rule) (between 0 n xs) ≡ ill_begins
-ill_first rule xs n e = ap (judge (at_first rule)) (between_from_start xs n) ∙ ap (λ z. cond z (judge_by (last_of rule (take n xs)) (take n xs)) ill_begins) e
+none_settled : (begun : Bool) (last : Last) (j : Judged) (o : Option Last) → o ≡ cond begun (Some last) None → ((l : Last) → o ≡ Some l → ⊥) → cond begun j ill_begins ≡ ill_begins
+none_settled true last j o e other = absurd (other last e)
+none_settled false last j o e other = refl
 
-pub opened : (rule : Rule) (xs : List ℕ) (n : ℕ) (last : Last) → begun (take n xs) ≡ true → last ≡ last_of rule (take n xs) → judge (at_first rule) (between 0 n xs) ≡ judge_by last (between 0 n xs)
-opened rule xs n last e is =
+pub ill_first : (rule : Rule) (xs : List ℕ) (n : ℕ) (o : Option Last) → o ≡ settled rule (take n xs) → ((l : Last) → o ≡ Some l → ⊥) → judge (at_first rule) (between 0 n xs) ≡ ill_begins
+ill_first rule xs n o e other = ap (judge (at_first rule)) (between_from_start xs n) ∙ none_settled (begun (take n xs)) (last_of rule (take n xs)) _ o e other
+
+one_settled : (begun : Bool) (l last : Last) (line : List ℕ) → Some last ≡ cond begun (Some l) None → cond begun (judge_by l line) ill_begins ≡ judge_by last line
+one_settled true l last line e = let is : l ≡ last = cc in ap (λ z. judge_by z line) is
+one_settled false l last line e = cc
+
+pub opened : (rule : Rule) (xs : List ℕ) (n : ℕ) (last : Last) → Some last ≡ settled rule (take n xs) → judge (at_first rule) (between 0 n xs) ≡ judge_by last (between 0 n xs)
+opened rule xs n last e =
     let all = between_from_start xs n in
-    ap (judge (at_first rule)) all ∙ ap (λ z. cond z (judge_by (last_of rule (take n xs)) (take n xs)) ill_begins) e ∙ ap₂ judge_by (sym is) (sym all)
+    ap (judge (at_first rule)) all ∙ one_settled (begun (take n xs)) (last_of rule (take n xs)) last (take n xs) e ∙ ap (judge_by last) (sym all)
 
 pub ended : (last : Last) (l : List ℕ) (code : ℕ) → Some code ≡ ender last l → judge_by last l ≡ it_ends code
 ended last l code e = ap (said last) (sym e)

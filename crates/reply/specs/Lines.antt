@@ -42,6 +42,10 @@ abbrev pub last_of : Rule → List ℕ → Last
 last_of Usual first = Deciding
 last_of Feat first = cond (opens_features first) Features Deciding
 
+-- which line is the last, where the first line is well begun
+abbrev pub settled : Rule → List ℕ → Option Last
+settled rule first = cond (begun first) (Some (last_of rule first)) None
+
 -- the code of a line that is the last
 abbrev pub ender : Last → List ℕ → Option ℕ
 ender Deciding l = deciding l

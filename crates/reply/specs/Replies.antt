@@ -81,6 +81,10 @@ line_on limit ending n (b ∷ bs) =
     cond (nat_le limit n) (line_cut (Err (unread ReplyTooLong n)) bs)
     (cond (b == 10) (line_cut (Ok (n + 1)) bs) (line_on limit ending (n + 1) bs))
 
+-- the line that comes over a link after n bytes of a reply
+abbrev pub line_from : ℕ → ℕ → Wire → LineCut
+line_from limit n w = line_on limit w.ending n w.coming
+
 -- where a line ends, or the fault that it is not whole
 abbrev pub line_answered : Option Verb → Result ℕ Unread → Result ℕ Fault
 line_answered verb (Ok n) = Ok n

@@ -2,9 +2,9 @@
 ghost use Rattle.std.specs.Prelude.{◌≡◌, ◌<◌, ◌≤◌, IfOk, length};
 ghost use Rattle.link.specs.Wire.{past, leaving};
 ghost use Rattle.reply.specs.Grammar.{ByGrammar};
-ghost use Rattle.reply.specs.Replies.{unread, fault_of, came, line_on, line_answered, read_on, heard, reply};
+ghost use Rattle.reply.specs.Replies.{unread, fault_of, came, line_from, line_answered, read_on, heard, reply};
 
-use crate::lines::{ending_code, last_of, well_begun};
+use crate::lines::{ending_code, settled};
 use crate::reply::{Reply, Rule};
 use command::{Fault, Refusal, Verb};
 use link::{Link, read_byte};
@@ -28,7 +28,7 @@ fn next_byte<L: Link>(link: &mut L, stored: usize, verb: Option<Verb>) -> Result
 {
     read_byte(link)
         .map_err(|_| unfinished(Refusal::LinkBroken, verb, stored))?
-        .ok_or(unfinished(Refusal::LinkClosed, verb, stored))
+        .ok_or_else(|| unfinished(Refusal::LinkClosed, verb, stored))
 }
 
 // Reads on to the end of a line, a byte at a time, and answers where in the area it ends. A byte that comes when the area is
@@ -40,9 +40,9 @@ fn read_line<L: Link>(
     verb: Option<Verb>,
 ) -> Result<usize, Fault>
     requires { start ≤ length area.old }
-    ensures answer { result ≡ line_answered verb (line_on (length area.old) (L.means link.old).ending start (L.means link.old).coming).got }
-    ensures area { area.new ≡ read_on start (line_on (length area.old) (L.means link.old).ending start (L.means link.old).coming).got (L.means link.old).coming area.old }
-    ensures link { L.means link.new ≡ leaving (line_on (length area.old) (L.means link.old).ending start (L.means link.old).coming).rest (L.means link.old) }
+    ensures answer { result ≡ line_answered verb (line_from (length area.old) start (L.means link.old)).got }
+    ensures area { area.new ≡ read_on start (line_from (length area.old) start (L.means link.old)).got (L.means link.old).coming area.old }
+    ensures link { L.means link.new ≡ leaving (line_from (length area.old) start (L.means link.old)).rest (L.means link.old) }
     ensures within { IfOk result (λ end. (start < end) × (end ≤ length area.old)) }
 {
     for stored in start..area.len() {
@@ -67,10 +67,9 @@ pub fn read_response<L: Link>(
     ensures rfc { ByGrammar rule (length area.old) (L.means link.old).coming result }
 {
     let mut end = read_line(link, area, 0, verb)?;
-    if !well_begun(&area[..end]) {
+    let Some(last) = settled(rule, &area[..end]) else {
         return Err(unfinished(Refusal::ReplyIllBegun, verb, end));
-    }
-    let last = last_of(rule, &area[..end]);
+    };
     let mut start = 0;
     'lines: loop {
         if let Some(code) = ending_code(last, &area[start..end]) {

@@ -1,6 +1,6 @@
 // The lines of a reply: how the first begins, which one is the last, and the code that the last one gives.
 ghost use Rattle.std.specs.Prelude.{◌≡◌};
-ghost use Rattle.reply.specs.Lines.{deciding, begun, opens_features, closing, ender, last_of};
+ghost use Rattle.reply.specs.Lines.{deciding, begun, opens_features, closing, ender, last_of, settled};
 
 use crate::reply::Rule;
 use text::is_digit;
@@ -25,7 +25,7 @@ fn deciding_code(line: &[u8]) -> Option<u16>
 }
 
 // Whether a first line has five bytes and begins with three digits and a space or a hyphen.
-pub fn well_begun(line: &[u8]) -> bool
+fn well_begun(line: &[u8]) -> bool
     ensures { result ≡ begun line.now }
 {
     matches!(*line, [a, b, c, b' ' | b'-', _, ..] if is_digit(a) && is_digit(b) && is_digit(c))
@@ -46,13 +46,20 @@ fn closing_code(line: &[u8]) -> Option<u16>
 }
 
 // Which line will be the last, by the rule and the first line.
-pub fn last_of(rule: Rule, first: &[u8]) -> Last
+fn last_of(rule: Rule, first: &[u8]) -> Last
     ensures { result ≡ last_of rule first.now }
 {
     match rule {
         Rule::Feat if opens_features(first) => Last::Features,
         Rule::Usual | Rule::Feat => Last::Deciding,
     }
+}
+
+// Which line will be the last, or none where the first line is ill begun.
+pub fn settled(rule: Rule, first: &[u8]) -> Option<Last>
+    ensures { result ≡ settled rule first.now }
+{
+    well_begun(first).then_some(last_of(rule, first))
 }
 
 // The code of a line that is the last.
