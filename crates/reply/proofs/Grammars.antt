@@ -2,6 +2,7 @@
 use Rattle.std.proofs.Common.{◌≡◌, ℕ, suc, ◌+◌, ◌<◌, ◌≤◌, Bool, true, false, cond, eqb, leb, List, [], ◌∷◌, ◌++◌, length, take, drop, Some, None, Ok, Err, Option, Result, sym, refl, ap, ◌∙◌, subst, ap₂, arith}
 use Rattle.std.proofs.lemmas.Bool.{eqb-true, eqb-false, ne_eqb, lt-leb}
 use Rattle.std.proofs.lemmas.List.{append_assoc, append-nil, length-append, length-take, take-append-drop, take_at}
+use Rattle.std.specs.List.{concat}
 use Rattle.link.specs.declared.wire.Ending.{Ending}
 use Rattle.link.specs.declared.wire.Ending.TheVariants.{Closed}
 use Rattle.command.specs.declared.fault.Fault.{Fault}
@@ -9,66 +10,62 @@ use Rattle.command.specs.declared.verb.Verb.{Verb}
 use Rattle.reply.specs.declared.reply.Reply.{Reply}
 use Rattle.reply.specs.declared.reply.Rule.{Rule}
 use Rattle.reply.specs.declared.lines.Last.{Last}
-use Rattle.reply.specs.declared.lines.Place.{Place}
-use Rattle.reply.specs.declared.lines.Place.TheVariants.{First, Later}
-use Rattle.reply.specs.declared.lines.Judged.{Judged}
-use Rattle.reply.specs.declared.lines.Judged.TheVariants.{IllBegun, Ends, GoesOn}
-use Rattle.reply.specs.Lines.{begun, last_of, ender, said, judge_by, judge}
+use Rattle.reply.specs.Lines.{Place, at_first, at_later, Judged, ill_begins, it_ends, it_goes_on, begun, last_of, ender, said, judge_by, judge}
 use Rattle.reply.specs.Replies.{Unread, Cut, cut, by_line, reply_on, reply, count, answered}
-use Rattle.reply.specs.Grammar.{Each, Line, together, EndsWith, IsReply, NoReply, ByGrammar, OneReading}
+use Rattle.reply.specs.Grammar.{Each, Line, EndsWith, IsReply, NoReply, ByGrammar, OneReading}
 use Rattle.reply.proofs.Replies.{not_ok, at_room, by_tests, is_line, reply_long}
 
 -- what the lines from a place on are, in a reply with a code
 abbrev Says : Place → List (List ℕ) → ℕ → Type 0
-Says (Later last) ls code = EndsWith last ls code
-Says (First rule) [] code = ⊥
-Says (First rule) (l ∷ ls) code = (begun l ≡ true) × EndsWith (last_of rule l) (l ∷ ls) code
+Says (at_later last) ls code = EndsWith last ls code
+Says (at_first rule) [] code = ⊥
+Says (at_first rule) (l ∷ ls) code = (begun l ≡ true) × EndsWith (last_of rule l) (l ∷ ls) code
 
 -- A line that ends the reply, and one that does not, as the grammar has it and as it is judged.
 
-said_ends : (last : Last) (o : Option ℕ) (code : ℕ) → said last o ≡ Ends code → o ≡ Some code
-said_ends last None code e = let z : ◌≡◌ {A = ℕ} 0 1 = cc in absurd (omega arith)
+said_ends : (last : Last) (o : Option ℕ) (code : ℕ) → said last o ≡ it_ends code → o ≡ Some code
+said_ends last None code e = cc
 said_ends last (Some d) code e = cc
 
-said_goes : (last : Last) (o : Option ℕ) (next : Last) → said last o ≡ GoesOn next → (o ≡ None) × (last ≡ next)
+said_goes : (last : Last) (o : Option ℕ) (next : Last) → said last o ≡ it_goes_on next → (o ≡ None) × (last ≡ next)
 said_goes last None next e = (refl, cc)
-said_goes last (Some d) next e = let z : ◌≡◌ {A = ℕ} 0 1 = cc in absurd (omega arith)
+said_goes last (Some d) next e = cc
 
-opened : (j : Judged) (well : Bool) (k : Judged) → (k ≡ IllBegun → ⊥) → cond well j IllBegun ≡ k → (well ≡ true) × (j ≡ k)
+opened : (j : Judged) (well : Bool) (k : Judged) → (k ≡ ill_begins → ⊥) → cond well j ill_begins ≡ k → (well ≡ true) × (j ≡ k)
 opened j true k other e = (refl, e)
 opened j false k other e = absurd (other (sym e))
 
-not_ends : (code : ℕ) → Ends code ≡ IllBegun → ⊥
-not_ends code e = let z : ◌≡◌ {A = ℕ} 0 1 = cc in omega arith
+not_ends : (code : ℕ) → it_ends code ≡ ill_begins → ⊥
+not_ends code e = cc
 
-not_goes : (last : Last) → GoesOn last ≡ IllBegun → ⊥
-not_goes last e = let z : ◌≡◌ {A = ℕ} 0 1 = cc in omega arith
+not_goes : (last : Last) → it_goes_on last ≡ ill_begins → ⊥
+not_goes last e = cc
 
-judge_ends : (place : Place) (l : List ℕ) (code : ℕ) → judge place l ≡ Ends code → Says place (l ∷ []) code
-judge_ends (Later last) l code e = said_ends last (ender last l) code e
-judge_ends (First rule) l code e =
-    let h = opened (judge_by (last_of rule l) l) (begun l) (Ends code) (not_ends code) e in
+judge_ends : (place : Place) (l : List ℕ) (code : ℕ) → judge place l ≡ it_ends code → Says place (l ∷ []) code
+judge_ends (at_later last) l code e = said_ends last (ender last l) code e
+judge_ends (at_first rule) l code e =
+    let h = opened (judge_by (last_of rule l) l) (begun l) (it_ends code) (not_ends code) e in
     (h.0, said_ends (last_of rule l) (ender (last_of rule l) l) code h.1)
 
-goes_later : (last next : Last) (l : List ℕ) → judge_by last l ≡ GoesOn next → (ls : List (List ℕ)) (code : ℕ) → EndsWith next ls code → EndsWith last (l ∷ ls) code
+goes_later : (last next : Last) (l : List ℕ) → judge_by last l ≡ it_goes_on next → (ls : List (List ℕ)) (code : ℕ) → EndsWith next ls code → EndsWith last (l ∷ ls) code
 goes_later last next l e [] code h = absurd h
 goes_later last next l e (m ∷ ls) code h =
     let s = said_goes last (ender last l) next e in
     (s.0, subst (λ (z : Last). EndsWith z (m ∷ ls) code) (sym s.1) h)
 
-judge_goes : (place : Place) (l : List ℕ) (next : Last) → judge place l ≡ GoesOn next → (ls : List (List ℕ)) (code : ℕ) → EndsWith next ls code → Says place (l ∷ ls) code
-judge_goes (Later last) l next e ls code h = goes_later last next l e ls code h
-judge_goes (First rule) l next e ls code h =
-    let s = opened (judge_by (last_of rule l) l) (begun l) (GoesOn next) (not_goes next) e in
+judge_goes : (place : Place) (l : List ℕ) (next : Last) → judge place l ≡ it_goes_on next → (ls : List (List ℕ)) (code : ℕ) → EndsWith next ls code → Says place (l ∷ ls) code
+judge_goes (at_later last) l next e ls code h = goes_later last next l e ls code h
+judge_goes (at_first rule) l next e ls code h =
+    let s = opened (judge_by (last_of rule l) l) (begun l) (it_goes_on next) (not_goes next) e in
     (s.0, goes_later (last_of rule l) next l s.1 ls code h)
 
-ends_judge : (place : Place) (l : List ℕ) (code : ℕ) → Says place (l ∷ []) code → judge place l ≡ Ends code
-ends_judge (Later last) l code h = ap (said last) h
-ends_judge (First rule) l code h = let e : begun l ≡ true = h.0 in rw e (ap (said (last_of rule l)) h.1)
+ends_judge : (place : Place) (l : List ℕ) (code : ℕ) → Says place (l ∷ []) code → judge place l ≡ it_ends code
+ends_judge (at_later last) l code h = ap (said last) h
+ends_judge (at_first rule) l code h = let e : begun l ≡ true = h.0 in rw e (ap (said (last_of rule l)) h.1)
 
-goes_judge : (place : Place) (l m : List ℕ) (ls : List (List ℕ)) (code : ℕ) → Says place (l ∷ m ∷ ls) code → (last : Last) × (judge place l ≡ GoesOn last) × EndsWith last (m ∷ ls) code
-goes_judge (Later last) l m ls code h = (last, ap (said last) h.0, h.1)
-goes_judge (First rule) l m ls code h = (last_of rule l, let e : begun l ≡ true = h.0 in rw e (ap (said (last_of rule l)) h.1.0), h.1.1)
+goes_judge : (place : Place) (l m : List ℕ) (ls : List (List ℕ)) (code : ℕ) → Says place (l ∷ m ∷ ls) code → (last : Last) × (judge place l ≡ it_goes_on last) × EndsWith last (m ∷ ls) code
+goes_judge (at_later last) l m ls code h = (last, ap (said last) h.0, h.1)
+goes_judge (at_first rule) l m ls code h = (last_of rule l, let e : begun l ≡ true = h.0 in rw e (ap (said (last_of rule l)) h.1.0), h.1.1)
 
 -- the code of a finished reply
 abbrev code_in : Result Reply Unread → ℕ
@@ -82,7 +79,7 @@ each_push P (x ∷ xs) y h p = (h.0, each_push P xs y h.1 p)
 module _ (limit : ℕ) (ending : Ending) where
   -- what the bytes behind a whole line are cut into
   abbrev behind : ℕ → List ℕ → Judged → Cut
-  behind n y j = by_line n y (λ last. reply_on limit ending n (Later last) [] y) j
+  behind n y j = by_line n y (λ last. reply_on limit ending n (at_later last) [] y) j
 
   -- through the end of a line
   through : (text : List ℕ) → Each (λ b. b ≡ 10 → ⊥) text → (n : ℕ) (place : Place) (l y : List ℕ) → n + length text < limit → reply_on limit ending n place l (text ++ 10 ∷ y) ≡ behind (n + length text + 1) y (judge place (l ++ (text ++ 10 ∷ [])))
@@ -106,9 +103,9 @@ module _ (limit : ℕ) (ending : Ending) where
       ∙ ap₂ (λ k m. behind k y (judge place m)) z (sym line.ends)
 
   -- lines of which the last one ends the reply are cut off as that reply
-  found : (ls : List (List ℕ)) → Each Line ls → (n : ℕ) (place : Place) (code : ℕ) (x : List ℕ) → Says place ls code → n + length (together ls) ≤ limit → reply_on limit ending n place [] (together ls ++ x) ≡ cut (Ok (record { code = code; length = n + length (together ls) })) x
-  found [] lines n (Later last) code x h room = absurd h
-  found [] lines n (First rule) code x h room = absurd h
+  found : (ls : List (List ℕ)) → Each Line ls → (n : ℕ) (place : Place) (code : ℕ) (x : List ℕ) → Says place ls code → n + length (concat ls) ≤ limit → reply_on limit ending n place [] (concat ls ++ x) ≡ cut (Ok (record { code = code; length = n + length (concat ls) })) x
+  found [] lines n (at_later last) code x h room = absurd h
+  found [] lines n (at_first rule) code x h room = absurd h
   found (l ∷ []) lines n place code x h room =
       let all : l ++ [] ≡ l = append-nil l in
       let long = ap length all in
@@ -118,12 +115,12 @@ module _ (limit : ℕ) (ending : Ending) where
       ∙ ap (λ m. cut (Ok (record { code = code; length = n + length m })) x) (sym all)
   found (l ∷ m ∷ ls) lines n place code x h room =
       let g = goes_judge place l m ls code h in
-      let long : length (l ++ together (m ∷ ls)) ≡ length l + length (together (m ∷ ls)) = length-append l (together (m ∷ ls)) in
-      let z : n + length l + length (together (m ∷ ls)) ≡ n + length (l ++ together (m ∷ ls)) = omega arith in
-      ap (reply_on limit ending n place []) (append_assoc l (together (m ∷ ls)) x)
-      ∙ through_line l lines.0 n place (together (m ∷ ls) ++ x) (omega arith)
-      ∙ ap (behind (n + length l) (together (m ∷ ls) ++ x)) g.1
-      ∙ found (m ∷ ls) lines.1 (n + length l) (Later g.0) code x g.2 (omega arith)
+      let long : length (l ++ concat (m ∷ ls)) ≡ length l + length (concat (m ∷ ls)) = length-append l (concat (m ∷ ls)) in
+      let z : n + length l + length (concat (m ∷ ls)) ≡ n + length (l ++ concat (m ∷ ls)) = omega arith in
+      ap (reply_on limit ending n place []) (append_assoc l (concat (m ∷ ls)) x)
+      ∙ through_line l lines.0 n place (concat (m ∷ ls) ++ x) (omega arith)
+      ∙ ap (behind (n + length l) (concat (m ∷ ls) ++ x)) g.1
+      ∙ found (m ∷ ls) lines.1 (n + length l) (at_later g.0) code x g.2 (omega arith)
       ∙ ap (λ k. cut (Ok (record { code = code; length = k })) x) z
 
   -- a reply by the grammar is cut off whatever stands behind it
@@ -132,9 +129,9 @@ module _ (limit : ℕ) (ending : Ending) where
   reply_found rule p x code is room =
       let ls = is.first ∷ is.more in
       let long = ap length is.whole in
-      let z : 0 + length (together (is.first ∷ is.more)) ≡ length p = omega arith in
-      ap (λ m. reply_on limit ending 0 (First rule) [] (m ++ x)) is.whole
-      ∙ found (is.first ∷ is.more) is.lines 0 (First rule) code x (is.opens, is.ends) (omega arith)
+      let z : 0 + length (concat (is.first ∷ is.more)) ≡ length p = omega arith in
+      ap (λ m. reply_on limit ending 0 (at_first rule) [] (m ++ x)) is.whole
+      ∙ found (is.first ∷ is.more) is.lines 0 (at_first rule) code x (is.opens, is.ends) (omega arith)
       ∙ ap (λ k. cut (Ok (record { code = code; length = k })) x) z
 
   -- a reply that is cut off some bytes, of whose first line l came before
@@ -143,7 +140,7 @@ module _ (limit : ℕ) (ending : Ending) where
     rest : List ℕ
     lines : List (List ℕ)
     whole : bs ≡ took ++ rest
-    cuts : l ++ took ≡ together lines
+    cuts : l ++ took ≡ concat lines
     each : Each Line lines
     says : Says place lines c.code
     long : c.length ≡ n + length took
@@ -155,9 +152,9 @@ module _ (limit : ℕ) (ending : Ending) where
     abbrev Sound : ℕ → Place → List ℕ → List ℕ → Type 0
     Sound n place l bs = Each (λ x. x ≡ 10 → ⊥) l → (reply_on limit ending n place l bs).got ≡ Ok c → Found n place l bs c
 
-    sound_line : (n : ℕ) (place : Place) (l : List ℕ) (b : ℕ) (bs : List ℕ) → Each (λ x. x ≡ 10 → ⊥) l → b ≡ 10 → ((last : Last) → Sound (n + 1) (Later last) [] bs) → (j : Judged) → judge place (l ++ b ∷ []) ≡ j → (behind (n + 1) bs j).got ≡ Ok c → Found n place l (b ∷ bs) c
-    sound_line n place l b bs only ten h IllBegun says e = absurd (not_ok _ c e)
-    sound_line n place l b bs only ten h (Ends code) says e =
+    sound_line : (n : ℕ) (place : Place) (l : List ℕ) (b : ℕ) (bs : List ℕ) → Each (λ x. x ≡ 10 → ⊥) l → b ≡ 10 → ((last : Last) → Sound (n + 1) (at_later last) [] bs) → (j : Judged) → judge place (l ++ b ∷ []) ≡ j → (behind (n + 1) bs j).got ≡ Ok c → Found n place l (b ∷ bs) c
+    sound_line n place l b bs only ten h ill_begins says e = absurd (not_ok _ c e)
+    sound_line n place l b bs only ten h (it_ends code) says e =
         let f = line_of l b only ten in
         let is : code ≡ c.code = ap code_in e in
         let long : n + 1 ≡ c.length = ap count e in
@@ -171,7 +168,7 @@ module _ (limit : ℕ) (ending : Ending) where
           says = subst (λ (z : ℕ). Says place ((l ++ b ∷ []) ∷ []) z) is (judge_ends place (l ++ b ∷ []) code says);
           long = sym long;
         }
-    sound_line n place l b bs only ten h (GoesOn last) says e =
+    sound_line n place l b bs only ten h (it_goes_on last) says e =
         let f = line_of l b only ten in
         let r = h last tt e in
         record {
@@ -185,7 +182,7 @@ module _ (limit : ℕ) (ending : Ending) where
           long = omega (arith, r.long);
         }
 
-    sound_byte : (n : ℕ) (place : Place) (l : List ℕ) (b : ℕ) (bs : List ℕ) → Each (λ x. x ≡ 10 → ⊥) l → Sound (n + 1) place (l ++ b ∷ []) bs → ((last : Last) → Sound (n + 1) (Later last) [] bs) → (ten full : Bool) → eqb b 10 ≡ ten → (at_room limit ending n place (l ++ b ∷ []) bs ten full).got ≡ Ok c → Found n place l (b ∷ bs) c
+    sound_byte : (n : ℕ) (place : Place) (l : List ℕ) (b : ℕ) (bs : List ℕ) → Each (λ x. x ≡ 10 → ⊥) l → Sound (n + 1) place (l ++ b ∷ []) bs → ((last : Last) → Sound (n + 1) (at_later last) [] bs) → (ten full : Bool) → eqb b 10 ≡ ten → (at_room limit ending n place (l ++ b ∷ []) bs ten full).got ≡ Ok c → Found n place l (b ∷ bs) c
     sound_byte n place l b bs only h g ten true t e = absurd (not_ok _ c e)
     sound_byte n place l b bs only h g true false t e = sound_line n place l b bs only (eqb-true b 10 t) g (judge place (l ++ b ∷ [])) refl e
     sound_byte n place l b bs only h g false false t e =
@@ -203,9 +200,9 @@ module _ (limit : ℕ) (ending : Ending) where
 
     sound : (n : ℕ) (place : Place) (l bs : List ℕ) → Sound n place l bs
     sound n place l [] only e = absurd (not_ok _ c e)
-    sound n place l (b ∷ bs) only e = sound_byte n place l b bs only (sound (n + 1) place (l ++ b ∷ []) bs) (λ last. sound (n + 1) (Later last) [] bs) (eqb b 10) (leb limit n) refl e
+    sound n place l (b ∷ bs) only e = sound_byte n place l b bs only (sound (n + 1) place (l ++ b ∷ []) bs) (λ last. sound (n + 1) (at_later last) [] bs) (eqb b 10) (leb limit n) refl e
 
-is_reply : (rule : Rule) (bytes : List ℕ) (code : ℕ) (ls : List (List ℕ)) → bytes ≡ together ls → Each Line ls → Says (First rule) ls code → IsReply rule bytes code
+is_reply : (rule : Rule) (bytes : List ℕ) (code : ℕ) (ls : List (List ℕ)) → bytes ≡ concat ls → Each Line ls → Says (at_first rule) ls code → IsReply rule bytes code
 is_reply rule bytes code [] whole each says = absurd says
 is_reply rule bytes code (l ∷ ls) whole each says = record { first = l; more = ls; whole = whole; lines = each; opens = says.0; ends = says.1 }
 
@@ -214,7 +211,7 @@ module _ (rule : Rule) (limit : ℕ) (ending : Ending) (bs : List ℕ) where
   pub reply_sound : (c : Reply) → (reply rule limit ending bs).got ≡ Ok c → IsReply rule (take c.length bs) c.code × (c.length ≤ length bs)
   unfolding reply
   reply_sound c e =
-      let f = sound limit ending c 0 (First rule) [] bs tt e in
+      let f = sound limit ending c 0 (at_first rule) [] bs tt e in
       let long : length f.took ≡ c.length = omega (arith, f.long) in
       let front : take c.length bs ≡ f.took = ap (take c.length) f.whole ∙ take_at f.took f.rest c.length long in
       let all : length bs ≡ length f.took + length f.rest = ap length f.whole ∙ length-append f.took f.rest in

@@ -1,4 +1,5 @@
-pub mod Reading
 pub mod Replies
 pub mod Grammars
 pub mod Locality
+pub mod CutLines
+pub mod Reading

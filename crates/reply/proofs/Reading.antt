@@ -1,160 +1,224 @@
--- The loop that reads a reply: what it keeps, and what each way out of it owes. Assumes nothing.
-use Rattle.std.proofs.Common.{◌≡◌, ℕ, ◌+◌, ◌<◌, ◌≤◌, Bool, true, false, eqb, leb, List, [], ◌∷◌, ◌++◌, length, get_or, take, drop, set, Ok, Err, Option, Result, sym, refl, ap, ◌∙◌, ap₂, arith}
-use Rattle.std.proofs.lemmas.List.Edits.{between_more, between_none}
-use Rattle.std.proofs.lemmas.List.{append_assoc, drop-drop, drop_more, get_or-set_same, length-drop, length_push, length-set, length-take-le, set_at, take_more, take-set}
-use Rattle.std.proofs.lemmas.Slice.{between_is}
-use Rattle.std.proofs.lemmas.Bool.{eq-eqb, ne_eqb, le-leb, lt-leb}
+-- The loops that read a line and a reply: what they keep, and what each way out of them owes. Assumes nothing.
+use Rattle.std.proofs.Common.{◌≡◌, ℕ, Bool, ◌+◌, ◌-◌, ◌<◌, ◌≤◌, true, false, cond, eqb, leb, List, [], ◌∷◌, ◌++◌, length, get_or, take, drop, set, Some, None, Ok, Err, Option, Result, sym, refl, ap, ◌∙◌, subst, ap₂, arith}
+use Rattle.std.proofs.lemmas.List.{drop-drop, drop_more, length-append, length-drop, length-take, length-take-le, take_at, take_more, take-append-drop}
+use Rattle.std.proofs.lemmas.Slice.{between_from_start, between_is, drop-append-drop}
+use Rattle.std.proofs.lemmas.Bool.{eq-eqb, ne_eqb, lt-leb}
 use Rattle.std.specs.List.{between}
 use Rattle.text.specs.Area.{laid}
+use Rattle.text.proofs.Laid.{laid_push}
 use Rattle.link.specs.Wire.{Wire, past, leaving}
 use Rattle.link.specs.declared.wire.Ending.{Ending}
 use Rattle.command.specs.declared.fault.Fault.{Fault}
-use Rattle.command.specs.declared.refusal.Refusal.TheVariants.{ReplyTooLong, ReplyIllBegun}
+use Rattle.command.specs.declared.refusal.Refusal.TheVariants.{ReplyIllBegun}
 use Rattle.command.specs.declared.verb.Verb.{Verb}
 use Rattle.reply.specs.declared.reply.Reply.{Reply}
 use Rattle.reply.specs.declared.reply.Rule.{Rule}
 use Rattle.reply.specs.declared.lines.Last.{Last}
-use Rattle.reply.specs.declared.lines.Place.{Place}
-use Rattle.reply.specs.declared.lines.Place.TheVariants.{First, Later}
-use Rattle.reply.specs.declared.lines.Judged.{Judged}
-use Rattle.reply.specs.declared.lines.Judged.TheVariants.{IllBegun, GoesOn}
-use Rattle.reply.specs.Lines.{judge}
-use Rattle.reply.specs.Replies.{Unread, unread, cut, lost, by_line, reply_on, reply, count, fault_of, came, answered, heard}
-use Rattle.reply.proofs.Replies.{at_byte, by_tests}
-
--- one byte more at the front of an area
-laid_push : (p area : List ℕ) (n b : ℕ) → length p ≡ n → n < length area → set (laid p area) n b ≡ laid (p ++ b ∷ []) area
-laid_push p area n b is room =
-    let rest : drop (length p) area ≡ get_or area n 0 ∷ drop (n + 1) area = ap (λ k. drop k area) is ∙ drop_more area n 0 room in
-    let long : length (p ++ b ∷ []) ≡ n + 1 = length_push p b ∙ ap (λ k. k + 1) is in
-    ap (λ xs. set (p ++ xs) n b) rest
-    ∙ set_at p (get_or area n 0) (drop (n + 1) area) b n is
-    ∙ sym (append_assoc p (b ∷ []) (drop (n + 1) area))
-    ∙ ap (λ k. (p ++ b ∷ []) ++ drop k area) (sym long)
-
--- one byte more of a line that lies in an area
-line_push : (area : List ℕ) (start n b : ℕ) → start ≤ n → n < length area → between start (n + 1) (set area n b) ≡ between start n area ++ b ∷ []
-line_push area start n b ordered room =
-    let long : n < length (set area n b) = rw length-set room in
-    let before : between start n (set area n b) ≡ between start n area = between_is (set area n b) start n ∙ ap (drop start) (take-set area n b) ∙ sym (between_is area start n) in
-    between_more (set area n b) start n 0 ordered long ∙ ap₂ (λ xs y. xs ++ y ∷ []) before (get_or-set_same area n b 0 room)
-
-none_left : (verb : Option Verb) (n : ℕ) (ending : Ending) (cs : List ℕ) (f : Fault) → Err f ≡ came verb n ending cs → (cs ≡ []) × (f ≡ fault_of verb (unread (lost ending) n))
-none_left verb n ending [] f e = (refl, cc)
-none_left verb n ending (b ∷ cs) f e = let z : ◌≡◌ {A = ℕ} 0 1 = cc in absurd (omega arith)
+use Rattle.reply.specs.Lines.{Place, at_first, at_later, Judged, ill_begins, it_ends, it_goes_on, begun, last_of, settled, ender, said, judge_by, judge}
+use Rattle.reply.specs.Replies.{Unread, unread, cut, by_line, reply_on, reply, LineCut, line_cut, line_on, line_answered, reached, read_on, count, fault_of, came, answered, heard}
+use Rattle.reply.proofs.CutLines.{LineFacts, line_facts, by_lines, behind_line}
 
 one_more : (verb : Option Verb) (n : ℕ) (ending : Ending) (cs : List ℕ) (b : ℕ) → Ok b ≡ came verb n ending cs → cs ≡ b ∷ drop 1 cs
-one_more verb n ending [] b e = let z : ◌≡◌ {A = ℕ} 0 1 = cc in absurd (omega arith)
+one_more verb n ending [] b e = cc
 one_more verb n ending (x ∷ cs) b e = let h : x ≡ b = cc in ap (λ z. z ∷ cs) h
 
--- Of a reply whose first line stands at a place: the bytes stored are at the front of the area and gone from the link, and
--- what is still to come is cut as all of it was.
-pub record Reading (first : Place) (area₀ : List ℕ) (w₀ w : Wire) (start n : ℕ) (place : Place) (area : List ℕ) : Type 0 where
-  pub ordered : start ≤ n
+-- the first n of the bytes coming are at the front of the area and gone from the link
+pub record Stored (area₀ : List ℕ) (w₀ : Wire) (n : ℕ) (area : List ℕ) (w : Wire) : Type 0 where
   pub there : n ≤ length w₀.coming
-  pub long : length area ≡ length area₀
   pub room : n ≤ length area₀
   pub link : w ≡ past n w₀
   pub front : area ≡ laid (take n w₀.coming) area₀
-  pub same : reply_on (length area₀) w₀.ending n place (between start n area) w.coming ≡ reply_on (length area₀) w₀.ending 0 first [] w₀.coming
 
-pub begins : (first : Place) (area₀ : List ℕ) (w₀ : Wire) → Reading first area₀ w₀ w₀ 0 0 first area₀
-begins first area₀ w₀ = record { ordered = omega arith; there = omega arith; long = refl; room = omega arith; link = refl; front = refl; same = refl }
+-- one byte more
+module _ (area₀ : List ℕ) (w₀ : Wire) (n : ℕ) (area : List ℕ) (w : Wire) (k : Stored area₀ w₀ n area w) (b : ℕ) (v : Wire) (after : v ≡ past 1 w) (came : w.coming ≡ b ∷ drop 1 w.coming) (free : n < length area₀) where
+  one_within : n < length w₀.coming
+  one_within =
+      let a = ap length (ap (λ z. z.coming) k.link) in
+      let s = ap length came in
+      omega (arith, length-drop n w₀.coming)
+
+  pub stored_more : Stored area₀ w₀ (n + 1) (set area n b) v
+  stored_more =
+      let cs = ap (λ z. z.coming) k.link in
+      let here : get_or w₀.coming n 0 ≡ b = ap (λ xs. get_or xs 0 0) (sym (drop_more w₀.coming n 0 one_within) ∙ sym cs ∙ came) in
+      let all : take (n + 1) w₀.coming ≡ take n w₀.coming ++ b ∷ [] = take_more w₀.coming n 0 one_within ∙ ap (λ y. take n w₀.coming ++ y ∷ []) here in
+      let long = length-take-le n w₀.coming k.there in
+      record {
+        there = omega (arith, one_within);
+        room = omega arith;
+        link = after ∙ ap (past 1) k.link ∙ ap (λ z. leaving z w₀) (drop-drop 1 n w₀.coming);
+        front = ap (λ xs. set xs n b) k.front ∙ ap (λ i. set (laid (take n w₀.coming) area₀) i b) (sym long) ∙ laid_push (take n w₀.coming) area₀ b (omega arith) ∙ ap (λ xs. laid xs area₀) (sym all);
+      }
+
+-- the bytes coming with those before them that the area holds
+abbrev from_start : ℕ → List ℕ → Wire → Wire
+from_start start area w = leaving (take start area ++ w.coming) w
+
+-- a line is read that begins at a place
+pub record ReadingLine (area₀ : List ℕ) (w₀ : Wire) (start n : ℕ) (area : List ℕ) (w : Wire) : Type 0 where
+  pub stored : Stored area₀ (from_start start area₀ w₀) n area w
+  pub same : line_on (length area₀) w₀.ending start w₀.coming ≡ line_on (length area₀) w₀.ending n w.coming
+
+module _ (verb : Option Verb) (area₀ : List ℕ) (w₀ : Wire) (start n : ℕ) (area : List ℕ) (w v : Wire) (k : ReadingLine area₀ w₀ start n area w) (after : v ≡ past 1 w) (b : ℕ) (e : Ok b ≡ came verb n w.ending w.coming) (free : n < length area₀) where
+  more : w.coming ≡ b ∷ drop 1 w.coming
+  more = one_more verb n w.ending w.coming b e
+
+  next : Stored area₀ (from_start start area₀ w₀) (n + 1) (set area n b) v
+  next = stored_more area₀ (from_start start area₀ w₀) n area w k.stored b v after more free
+
+  under : leb (length area₀) n ≡ false
+  under = lt-leb (length area₀) n free
+
+  -- a byte that ends its line
+  pub line_ends : b ≡ 10 → set area n b ≡ read_on start (line_on (length area₀) w₀.ending start w₀.coming).got w₀.coming area₀
+  line_ends ten =
+      let is : eqb b 10 ≡ true = eq-eqb b 10 ten in
+      let cuts : line_on (length area₀) w₀.ending n (b ∷ drop 1 w.coming) ≡ line_cut (Ok (n + 1)) (drop 1 w.coming) = rw (under, is) refl in
+      next.front ∙ ap (λ z. read_on start z.got w₀.coming area₀) (sym (k.same ∙ ap (line_on (length area₀) w₀.ending n) more ∙ cuts))
+
+  -- a byte behind which its line goes on
+  pub line_goes_on : (b ≡ 10 → ⊥) → ReadingLine area₀ w₀ start (n + 1) (set area n b) v
+  line_goes_on other =
+      let is : eqb b 10 ≡ false = ne_eqb b 10 other in
+      let on : line_on (length area₀) w₀.ending n (b ∷ drop 1 w.coming) ≡ line_on (length area₀) w₀.ending (n + 1) (drop 1 w.coming) = rw (under, is) refl in
+      record {
+        stored = next;
+        same = k.same ∙ ap (line_on (length area₀) w₀.ending n) more ∙ on ∙ ap (λ z. line_on (length area₀) w₀.ending (n + 1) z.coming) (sym after);
+      }
+
+-- a line of a reply begins
+pub record AtLine (rule : Rule) (area₀ : List ℕ) (w₀ : Wire) (place : Place) (n : ℕ) (area : List ℕ) (w : Wire) : Type 0 where
+  pub stored : Stored area₀ w₀ n area w
+  pub long : length area ≡ length area₀
+  pub same : reply_on (length area₀) w₀.ending 0 (at_first rule) [] w₀.coming ≡ reply_on (length area₀) w₀.ending n place [] w.coming
+
+-- a line of a reply was read that stands in the area from `start` to n, and says something of the reply
+pub record AfterLine (rule : Rule) (area₀ : List ℕ) (w₀ : Wire) (says : Judged) (start n : ℕ) (area : List ℕ) (w : Wire) : Type 0 where
+  pub ordered : start ≤ n
+  pub stored : Stored area₀ w₀ n area w
+  pub long : length area ≡ length area₀
+  pub same : reply_on (length area₀) w₀.ending 0 (at_first rule) [] w₀.coming ≡ by_line n w.coming (λ last. reply_on (length area₀) w₀.ending n (at_later last) [] w.coming) says
+
+pub begins : (rule : Rule) (area₀ : List ℕ) (w₀ : Wire) → AtLine rule area₀ w₀ (at_first rule) 0 area₀ w₀
+begins rule area₀ w₀ = record { stored = record { there = omega arith; room = omega arith; link = refl; front = refl }; long = refl; same = refl }
+
+-- bytes that are laid over fewer
+laid_over : (p q area : List ℕ) → length p ≤ length q → laid q (laid p area) ≡ laid q area
+laid_over p q area h = ap (λ z. q ++ z) (drop-append-drop (length p) area p (length q) h refl)
+
+laid_long : (p area : List ℕ) → length p ≤ length area → length (laid p area) ≡ length area
+laid_long p area h = simp (length-append, length-drop) (omega arith)
 
 module _ (rule : Rule) (area₀ : List ℕ) (w₀ : Wire) (verb : Option Verb) where
   -- what a return owes, once the cut is known
-  owed : (got : Result Reply Unread) (rest area : List ℕ) (v : Wire) → reply_on (length area₀) w₀.ending 0 (First rule) [] w₀.coming ≡ cut got rest → area ≡ laid (take (count got) w₀.coming) area₀ → v ≡ leaving rest w₀ → record { answer = answered verb got; area = area; link = v } ≡ heard verb (reply rule (length area₀) w₀.ending w₀.coming) area₀ w₀
+  owed : (got : Result Reply Unread) (rest area : List ℕ) (v : Wire) → reply_on (length area₀) w₀.ending 0 (at_first rule) [] w₀.coming ≡ cut got rest → area ≡ laid (take (count got) w₀.coming) area₀ → v ≡ leaving rest w₀ → record { answer = answered verb got; area = area; link = v } ≡ heard verb (reply rule (length area₀) w₀.ending w₀.coming) area₀ w₀
   unfolding reply
   owed got rest area v given stored left =
-      let e : heard verb (cut got rest) area₀ w₀ ≡ heard verb (reply_on (length area₀) w₀.ending 0 (First rule) [] w₀.coming) area₀ w₀ = ap (λ p. heard verb p area₀ w₀) (sym given) in
+      let e : heard verb (cut got rest) area₀ w₀ ≡ heard verb (reply_on (length area₀) w₀.ending 0 (at_first rule) [] w₀.coming) area₀ w₀ = ap (λ p. heard verb p area₀ w₀) (sym given) in
       ap₂ (λ a l. record { answer = answered verb got; area = a; link = l }) stored left ∙ e
 
-  module _ (w v : Wire) (start n : ℕ) (place : Place) (area : List ℕ) (k : Reading (First rule) area₀ w₀ w start n place area) (after : v ≡ past 1 w) where
-    left : v ≡ leaving (drop 1 w.coming) w₀
-    left = after ∙ ap (past 1) k.link ∙ ap (λ z. leaving (drop 1 z.coming) w₀) (sym k.link)
+  -- a line is read
+  module _ (place : Place) (n : ℕ) (area : List ℕ) (w : Wire) (k : AtLine rule area₀ w₀ place n area w) (new : List ℕ) (v : Wire) (p : LineCut) (is : line_on (length area) w.ending n w.coming ≡ p) (front : new ≡ read_on n p.got w.coming area) (left : v ≡ leaving p.rest w) where
+    cuts : line_on (length area₀) w₀.ending n w.coming ≡ p
+    cuts = ap (λ z. line_on z w₀.ending n w.coming) (sym k.long) ∙ ap (λ z. line_on (length area) z.ending n w.coming) (sym k.stored.link) ∙ is
 
-    -- nothing more comes
-    pub at_close : (f : Fault) → Err f ≡ came verb n w.ending w.coming → record { answer = Err f; area = area; link = v } ≡ heard verb (reply rule (length area₀) w₀.ending w₀.coming) area₀ w₀
-    at_close f e =
-        let none = none_left verb n w.ending w.coming f e in
-        let is : f ≡ fault_of verb (unread (lost w₀.ending) n) = none.1 ∙ ap (λ z. fault_of verb (unread (lost z.ending) n)) k.link in
-        let given : reply_on (length area₀) w₀.ending 0 (First rule) [] w₀.coming ≡ cut (Err (unread (lost w₀.ending) n)) [] = sym k.same ∙ ap (reply_on (length area₀) w₀.ending n place (between start n area)) none.0 in
-        ap (λ z. record { answer = Err z; area = area; link = v }) is
-        ∙ owed (Err (unread (lost w₀.ending) n)) [] area v given k.front (left ∙ ap (λ z. leaving (drop 1 z) w₀) none.0)
+    laid_now : n ≤ reached p.got → reached p.got ≤ length w₀.coming → new ≡ laid (take (reached p.got) w₀.coming) area₀
+    laid_now more there =
+        let long = length-take-le n w₀.coming k.stored.there in
+        let same : take n area ≡ take n w₀.coming = ap (take n) k.stored.front ∙ take_at (take n w₀.coming) (drop (length (take n w₀.coming)) area₀) n long in
+        let all : take n area ++ w.coming ≡ w₀.coming = ap₂ (λ a b. a ++ b) same (ap (λ z. z.coming) k.stored.link) ∙ take-append-drop n w₀.coming in
+        let under : length (take n w₀.coming) ≤ length (take (reached p.got) w₀.coming) = simp length-take (omega arith) in
+        front ∙ ap (λ z. laid (take (reached p.got) z) area) all ∙ ap (λ z. laid (take (reached p.got) w₀.coming) z) k.stored.front ∙ laid_over (take n w₀.coming) (take (reached p.got) w₀.coming) area₀ under
 
-    -- a byte came
-    module _ (b : ℕ) (e : Ok b ≡ came verb n w.ending w.coming) where
-      more : w.coming ≡ b ∷ drop 1 w.coming
-      more = one_more verb n w.ending w.coming b e
+    cut_now : reply_on (length area₀) w₀.ending 0 (at_first rule) [] w₀.coming ≡ behind_line (length area₀) w₀.ending place [] n w.coming p.got p.rest
+    cut_now = k.same ∙ by_lines (length area₀) w₀.ending place [] n w.coming ∙ ap (λ z. behind_line (length area₀) w₀.ending place [] n w.coming z.got z.rest) cuts
 
-      -- and there is no room for it
-      pub at_limit : (f : Fault) → f ≡ fault_of verb (unread ReplyTooLong n) → length area ≤ n → record { answer = Err f; area = area; link = v } ≡ heard verb (reply rule (length area₀) w₀.ending w₀.coming) area₀ w₀
-      at_limit f is full =
-          let over : leb (length area₀) n ≡ true = le-leb (length area₀) n (omega (arith, k.long)) in
-          let given : reply_on (length area₀) w₀.ending 0 (First rule) [] w₀.coming ≡ cut (Err (unread ReplyTooLong n)) (drop 1 w.coming) =
-          sym k.same ∙ ap (reply_on (length area₀) w₀.ending n place (between start n area)) more ∙ by_tests (length area₀) w₀.ending n place (between start n area) b (drop 1 w.coming) (eqb b 10) true refl over in
-          ap (λ z. record { answer = Err z; area = area; link = v }) is
-          ∙ owed (Err (unread ReplyTooLong n)) (drop 1 w.coming) area v given k.front left
+    facts : LineFacts (length area₀) w₀.ending n w.coming p
+    facts = subst (λ z. LineFacts (length area₀) w₀.ending n w.coming z) cuts (line_facts (length area₀) w₀.ending n w.coming k.stored.room)
 
-      -- and is stored
-      module _ (free : n < length area) where
-        within : n < length w₀.coming
-        within =
-            let a = ap length (ap (λ z. z.coming) k.link) in
-            let s = ap length more in
-            omega (arith, length-drop n w₀.coming)
+    there : reached p.got ≤ length w₀.coming
+    there =
+        let a = ap length (ap (λ z. z.coming) k.stored.link) in
+        omega (arith, facts.within, length-drop n w₀.coming, k.stored.there)
 
-        stored : set area n b ≡ laid (take (n + 1) w₀.coming) area₀
-        stored =
-            let cs = ap (λ z. z.coming) k.link in
-            let here : get_or w₀.coming n 0 ≡ b = ap (λ xs. get_or xs 0 0) (sym (drop_more w₀.coming n 0 within) ∙ sym cs ∙ more) in
-            let all : take (n + 1) w₀.coming ≡ take n w₀.coming ++ b ∷ [] = take_more w₀.coming n 0 within ∙ ap (λ y. take n w₀.coming ++ y ∷ []) here in
-            ap (λ xs. set xs n b) k.front
-            ∙ laid_push (take n w₀.coming) area₀ n b (length-take-le n w₀.coming k.there) (omega (arith, k.long))
-            ∙ ap (λ xs. laid xs area₀) (sym all)
+    -- it is not whole
+    pub at_lost : (got : Result ℕ Unread) → p.got ≡ got → (f : Fault) → Err f ≡ line_answered verb got → record { answer = Err f; area = new; link = v } ≡ heard verb (reply rule (length area₀) w₀.ending w₀.coming) area₀ w₀
+    at_lost (Ok m) e f answer = cc
+    at_lost (Err u) e f answer =
+        let g : f ≡ fault_of verb u = cc in
+        let now = laid_now facts.more there in
+        let at : reached p.got ≡ u.length = ap reached e in
+        ap (λ z. record { answer = Err z; area = new; link = v }) g
+        ∙ owed (Err u) p.rest new v
+        (cut_now ∙ ap (λ z. behind_line (length area₀) w₀.ending place [] n w.coming z p.rest) e)
+        (now ∙ ap (λ z. laid (take z w₀.coming) area₀) at)
+        (left ∙ ap (leaving p.rest) k.stored.link)
 
-        goes : (ten : Bool) → eqb b 10 ≡ ten → reply_on (length area₀) w₀.ending 0 (First rule) [] w₀.coming ≡ at_byte (length area₀) w₀.ending n place (between start n area ++ b ∷ []) (drop 1 w.coming) ten
-        goes ten is =
-            let under : leb (length area₀) n ≡ false = lt-leb (length area₀) n (omega (arith, k.long)) in
-            sym k.same ∙ ap (reply_on (length area₀) w₀.ending n place (between start n area)) more ∙ by_tests (length area₀) w₀.ending n place (between start n area) b (drop 1 w.coming) ten false is under
-
-        past_more : v ≡ past (n + 1) w₀
-        past_more = after ∙ ap (past 1) k.link ∙ ap (λ z. leaving z w₀) (drop-drop 1 n w₀.coming)
-
-        -- the next line begins behind it, or its line goes on
-        reading : (from : ℕ) (p : Place) → from ≤ n + 1 → reply_on (length area₀) w₀.ending (n + 1) p (between from (n + 1) (set area n b)) (drop 1 w.coming) ≡ reply_on (length area₀) w₀.ending 0 (First rule) [] w₀.coming → Reading (First rule) area₀ w₀ v from (n + 1) p (set area n b)
-        reading from p before on = record {
-          ordered = before;
-          there = omega (arith, within);
-          long = length-set area n b ∙ k.long;
-          room = omega (arith, k.long);
-          link = past_more;
-          front = stored;
-          same = ap (λ z. reply_on (length area₀) w₀.ending (n + 1) p (between from (n + 1) (set area n b)) z.coming) left ∙ on;
+    -- it is whole
+    pub at_whole : (got : Result ℕ Unread) → p.got ≡ got → (m : ℕ) → Ok m ≡ line_answered verb got → AfterLine rule area₀ w₀ (judge place (between n m new)) n m new v
+    at_whole (Err u) e m answer = cc
+    at_whole (Ok j) e m answer =
+        let ok : p.got ≡ Ok m = cc in
+        let at : reached p.got ≡ m = ap reached ok in
+        let f = facts.ok m ok in
+        let in_area : m ≤ length area₀ = omega (arith, facts.room) in
+        let came : m ≤ length w₀.coming = omega (arith, there) in
+        let front : new ≡ laid (take m w₀.coming) area₀ = laid_now facts.more there ∙ ap (λ z. laid (take z w₀.coming) area₀) at in
+        let long = length-take-le m w₀.coming came in
+        let cs = ap (λ z. z.coming) k.stored.link in
+        let sum : n + (m - n) ≡ m = omega (arith, f.0) in
+        let rest : p.rest ≡ drop m w₀.coming = f.1 ∙ ap (drop (m - n)) cs ∙ drop-drop (m - n) n w₀.coming ∙ ap (λ z. drop z w₀.coming) sum in
+        let held : take m new ≡ take m w₀.coming = ap (take m) front ∙ take_at (take m w₀.coming) (drop (length (take m w₀.coming)) area₀) m long in
+        let line : take (m - n) w.coming ≡ between n m new = ap (take (m - n)) cs ∙ between_is w₀.coming n m ∙ ap (drop n) (sym held) ∙ sym (between_is new n m) in
+        let coming = ap (λ z. z.coming) left in
+        record {
+          ordered = omega (arith, f.0);
+          stored = record { there = came; room = in_area; link = left ∙ ap (leaving p.rest) k.stored.link ∙ ap (λ z. leaving z w₀) rest; front = front };
+          long = ap length front ∙ laid_long (take m w₀.coming) area₀ (omega (arith, long));
+          same = cut_now ∙ ap (λ z. behind_line (length area₀) w₀.ending place [] n w.coming z p.rest) ok ∙ ap₂ (λ z y. by_line m y (λ last. reply_on (length area₀) w₀.ending m (at_later last) [] y) (judge place z)) line (sym coming);
         }
 
-        pub at_middle : (b ≡ 10 → ⊥) → Reading (First rule) area₀ w₀ v start (n + 1) place (set area n b)
-        at_middle other =
-            reading start place (omega (arith, k.ordered))
-            (ap (λ z. reply_on (length area₀) w₀.ending (n + 1) place z (drop 1 w.coming)) (line_push area start n b k.ordered free) ∙ sym (goes false (ne_eqb b 10 other)))
+  -- what a line says
+  module _ (says : Judged) (start n : ℕ) (area : List ℕ) (w : Wire) (k : AfterLine rule area₀ w₀ says start n area w) where
+    left_now : w ≡ leaving w.coming w₀
+    left_now = k.stored.link ∙ ap (λ z. leaving z w₀) (sym (ap (λ z. z.coming) k.stored.link))
 
-        -- it ends its line, which says j
-        module _ (ten : b ≡ 10) (j : Judged) (says : j ≡ judge place (between start (n + 1) (set area n b))) where
-          line : reply_on (length area₀) w₀.ending 0 (First rule) [] w₀.coming ≡ by_line (n + 1) (drop 1 w.coming) (λ last. reply_on (length area₀) w₀.ending (n + 1) (Later last) [] (drop 1 w.coming)) j
-          line =
-              let said : judge place (between start n area ++ b ∷ []) ≡ j = ap (judge place) (sym (line_push area start n b k.ordered free)) ∙ sym says in
-              goes true (eq-eqb b 10 ten) ∙ ap (by_line (n + 1) (drop 1 w.coming) (λ last. reply_on (length area₀) w₀.ending (n + 1) (Later last) [] (drop 1 w.coming))) said
+    said_now : (is : Judged) → says ≡ is → reply_on (length area₀) w₀.ending 0 (at_first rule) [] w₀.coming ≡ by_line n w.coming (λ last. reply_on (length area₀) w₀.ending n (at_later last) [] w.coming) is
+    said_now is e = k.same ∙ ap (by_line n w.coming (λ last. reply_on (length area₀) w₀.ending n (at_later last) [] w.coming)) e
 
-          pub at_end : (got : Result Reply Unread) → n + 1 ≡ count got → by_line (n + 1) (drop 1 w.coming) (λ last. reply_on (length area₀) w₀.ending (n + 1) (Later last) [] (drop 1 w.coming)) j ≡ cut got (drop 1 w.coming) → record { answer = answered verb got; area = set area n b; link = v } ≡ heard verb (reply rule (length area₀) w₀.ending w₀.coming) area₀ w₀
-          at_end got long e = owed got (drop 1 w.coming) (set area n b) v (line ∙ e) (stored ∙ ap (λ m. laid (take m w₀.coming) area₀) long) left
+    pub at_ill : (f : Fault) → f ≡ fault_of verb (unread ReplyIllBegun n) → says ≡ ill_begins → record { answer = Err f; area = area; link = w } ≡ heard verb (reply rule (length area₀) w₀.ending w₀.coming) area₀ w₀
+    at_ill f is e = ap (λ z. record { answer = Err z; area = area; link = w }) is ∙ owed (Err (unread ReplyIllBegun n)) w.coming area w (said_now ill_begins e) k.stored.front left_now
 
-          pub at_ill : (f : Fault) → f ≡ fault_of verb (unread ReplyIllBegun (n + 1)) → j ≡ IllBegun → record { answer = Err f; area = set area n b; link = v } ≡ heard verb (reply rule (length area₀) w₀.ending w₀.coming) area₀ w₀
-          at_ill f is e =
-              ap (λ z. record { answer = Err z; area = set area n b; link = v }) is
-              ∙ at_end (Err (unread ReplyIllBegun (n + 1))) refl (ap (by_line (n + 1) (drop 1 w.coming) (λ last. reply_on (length area₀) w₀.ending (n + 1) (Later last) [] (drop 1 w.coming))) e)
+    pub at_end : (code : ℕ) → says ≡ it_ends code → record { answer = Ok (record { code = code; length = n }); area = area; link = w } ≡ heard verb (reply rule (length area₀) w₀.ending w₀.coming) area₀ w₀
+    at_end code e = owed (Ok (record { code = code; length = n })) w.coming area w (said_now (it_ends code) e) k.stored.front left_now
 
-          pub at_next : (last : Last) → j ≡ GoesOn last → Reading (First rule) area₀ w₀ v (n + 1) (n + 1) (Later last) (set area n b)
-          at_next last e =
-              reading (n + 1) (Later last) (omega arith)
-              (ap (λ z. reply_on (length area₀) w₀.ending (n + 1) (Later last) z (drop 1 w.coming)) (between_none (set area n b) (n + 1))
-              ∙ sym (line ∙ ap (by_line (n + 1) (drop 1 w.coming) (λ m. reply_on (length area₀) w₀.ending (n + 1) (Later m) [] (drop 1 w.coming))) e))
+    pub at_more : (last : Last) → says ≡ it_goes_on last → AtLine rule area₀ w₀ (at_later last) n area w
+    at_more last e = record { stored = k.stored; long = k.long; same = said_now (it_goes_on last) e }
+
+-- What a line says, by the tests that were made of it.
+
+none_settled : (begun : Bool) (last : Last) (j : Judged) (o : Option Last) → o ≡ cond begun (Some last) None → ((l : Last) → o ≡ Some l → ⊥) → cond begun j ill_begins ≡ ill_begins
+none_settled true last j o e other = absurd (other last e)
+none_settled false last j o e other = refl
+
+pub ill_first : (rule : Rule) (xs : List ℕ) (n : ℕ) (o : Option Last) → o ≡ settled rule (take n xs) → ((l : Last) → o ≡ Some l → ⊥) → judge (at_first rule) (between 0 n xs) ≡ ill_begins
+ill_first rule xs n o e other = ap (judge (at_first rule)) (between_from_start xs n) ∙ none_settled (begun (take n xs)) (last_of rule (take n xs)) _ o e other
+
+one_settled : (begun : Bool) (l last : Last) (line : List ℕ) → Some last ≡ cond begun (Some l) None → cond begun (judge_by l line) ill_begins ≡ judge_by last line
+one_settled true l last line e = let is : l ≡ last = cc in ap (λ z. judge_by z line) is
+one_settled false l last line e = cc
+
+pub opened : (rule : Rule) (xs : List ℕ) (n : ℕ) (last : Last) → Some last ≡ settled rule (take n xs) → judge (at_first rule) (between 0 n xs) ≡ judge_by last (between 0 n xs)
+opened rule xs n last e =
+    let all = between_from_start xs n in
+    ap (judge (at_first rule)) all ∙ one_settled (begun (take n xs)) (last_of rule (take n xs)) last (take n xs) e ∙ ap (judge_by last) (sym all)
+
+pub ended : (last : Last) (l : List ℕ) (code : ℕ) → Some code ≡ ender last l → judge_by last l ≡ it_ends code
+ended last l code e = ap (said last) (sym e)
+
+pub goes_on : (last : Last) (l : List ℕ) (o : Option ℕ) → o ≡ ender last l → ((code : ℕ) → o ≡ Some code → ⊥) → judge_by last l ≡ it_goes_on last
+goes_on last l None e other = ap (said last) (sym e)
+goes_on last l (Some code) e other = absurd (other code refl)
+
+pub says_else : (rule : Rule) (area₀ : List ℕ) (w₀ : Wire) (says is : Judged) (start n : ℕ) (area : List ℕ) (w : Wire) → AfterLine rule area₀ w₀ says start n area w → says ≡ is → AfterLine rule area₀ w₀ is start n area w
+says_else rule area₀ w₀ says is start n area w k e = subst (λ z. AfterLine rule area₀ w₀ z start n area w) e k

@@ -1,12 +1,13 @@
 -- What a reply is, in the words of RFC 959, section 4.2. Assumes nothing.
 use Rattle.std.specs.Prelude.{◌≡◌, ℕ, ◌≤◌, true, List, [], ◌∷◌, ◌++◌, length, take, Some, None, Ok, Err, Result, ◌≢◌}
+use Rattle.std.specs.List.{concat}
 use Rattle.command.specs.declared.fault.Fault.{Fault}
 use Rattle.reply.specs.declared.reply.Reply.{Reply}
 use Rattle.reply.specs.declared.reply.Rule.{Rule}
 use Rattle.reply.specs.declared.lines.Last.{Last}
 use Rattle.reply.specs.Lines.{begun, last_of, ender}
 
--- something holds of each element of a list
+-- something holds of each element of a list, said down the list and not by index as the library's `All`
 abbrev pub Each : {A : Type 0} → (A → Type 0) → List A → Type 0
 Each P [] = Unit {0}
 Each P (x ∷ xs) = P x × Each P xs
@@ -16,11 +17,6 @@ pub record Line (l : List ℕ) : Type 0 where
   pub text : List ℕ
   pub ends : l ≡ text ++ 10 ∷ []
   pub only : Each (λ b. b ≢ 10) text
-
--- some lines one after another
-abbrev pub together : List (List ℕ) → List ℕ
-together [] = []
-together (l ∷ ls) = l ++ together ls
 
 -- the last of some lines ends its reply, with its digits as the code, and none before it does
 abbrev pub EndsWith : Last → List (List ℕ) → ℕ → Type 0
@@ -33,7 +29,7 @@ EndsWith last (l ∷ m ∷ ls) code = (ender last l ≡ None) × EndsWith last (
 pub record IsReply (rule : Rule) (bytes : List ℕ) (code : ℕ) : Type 0 where
   pub first : List ℕ
   pub more : List (List ℕ)
-  pub whole : bytes ≡ together (first ∷ more)
+  pub whole : bytes ≡ concat (first ∷ more)
   pub lines : Each Line (first ∷ more)
   pub opens : begun first ≡ true
   pub ends : EndsWith (last_of rule first) (first ∷ more) code

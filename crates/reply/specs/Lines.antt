@@ -6,10 +6,6 @@ use Rattle.reply.specs.declared.reply.Rule.{Rule}
 use Rattle.reply.specs.declared.reply.Rule.TheVariants.{Usual, Feat}
 use Rattle.reply.specs.declared.lines.Last.{Last}
 use Rattle.reply.specs.declared.lines.Last.TheVariants.{Deciding, Features}
-use Rattle.reply.specs.declared.lines.Place.{Place}
-use Rattle.reply.specs.declared.lines.Place.TheVariants.{First, Later}
-use Rattle.reply.specs.declared.lines.Judged.{Judged}
-use Rattle.reply.specs.declared.lines.Judged.TheVariants.{IllBegun, Ends, GoesOn}
 
 -- the number that three digits write
 abbrev pub code_of : ℕ → ℕ → ℕ → ℕ
@@ -46,14 +42,30 @@ abbrev pub last_of : Rule → List ℕ → Last
 last_of Usual first = Deciding
 last_of Feat first = cond (opens_features first) Features Deciding
 
+-- which line is the last, where the first line is well begun
+abbrev pub settled : Rule → List ℕ → Option Last
+settled rule first = cond (begun first) (Some (last_of rule first)) None
+
 -- the code of a line that is the last
 abbrev pub ender : Last → List ℕ → Option ℕ
 ender Deciding l = deciding l
 ender Features l = closing l
 
+-- where a line stands: first, in a reply that ends by a rule; or later, where the first line has settled how it ends
+pub data Place : Type 0 where
+  at_first : Rule → Place
+  at_later : Last → Place
+
+-- what a whole line says of its reply: it is ill begun, it ends with a code, or it goes on
+pub data Judged : Type 0 where
+  ill_begins : Judged
+  it_ends : ℕ → Judged
+  it_goes_on : Last → Judged
+
+-- what a line says by the code that it gives if it is the last
 abbrev pub said : Last → Option ℕ → Judged
-said last None = GoesOn last
-said last (Some code) = Ends code
+said last None = it_goes_on last
+said last (Some code) = it_ends code
 
 -- what a line says, where it is settled which one is the last
 abbrev pub judge_by : Last → List ℕ → Judged
@@ -61,5 +73,5 @@ judge_by last l = said last (ender last l)
 
 -- what a line says: a first line must be well begun, and settles which one is the last
 abbrev pub judge : Place → List ℕ → Judged
-judge (First rule) l = cond (begun l) (judge_by (last_of rule l) l) IllBegun
-judge (Later last) l = judge_by last l
+judge (at_first rule) l = cond (begun l) (judge_by (last_of rule l) l) ill_begins
+judge (at_later last) l = judge_by last l

@@ -1,10 +1,10 @@
 // Reading the control connection.
-ghost use Rattle.std.specs.Prelude.{◌≡◌, length};
-ghost use Rattle.link.specs.Wire.{past};
+ghost use Rattle.std.specs.Prelude.{◌≡◌, ◌<◌, ◌≤◌, IfOk, length};
+ghost use Rattle.link.specs.Wire.{past, leaving};
 ghost use Rattle.reply.specs.Grammar.{ByGrammar};
-ghost use Rattle.reply.specs.Replies.{unread, fault_of, came, heard, reply};
+ghost use Rattle.reply.specs.Replies.{unread, fault_of, came, line_from, line_answered, read_on, heard, reply};
 
-use crate::lines::{Judged, Place, judge};
+use crate::lines::{ending_code, settled};
 use crate::reply::{Reply, Rule};
 use command::{Fault, Refusal, Verb};
 use link::{Link, read_byte};
@@ -26,15 +26,37 @@ fn next_byte<L: Link>(link: &mut L, stored: usize, verb: Option<Verb>) -> Result
     ensures value { result ≡ came verb stored (L.means link.old).ending (L.means link.old).coming }
     ensures after { L.means link.new ≡ past 1 (L.means link.old) }
 {
-    match read_byte(link) {
-        Ok(Some(byte)) => Ok(byte),
-        Ok(None) => Err(unfinished(Refusal::LinkClosed, verb, stored)),
-        Err(_) => Err(unfinished(Refusal::LinkBroken, verb, stored)),
-    }
+    read_byte(link)
+        .map_err(|_| unfinished(Refusal::LinkBroken, verb, stored))?
+        .ok_or_else(|| unfinished(Refusal::LinkClosed, verb, stored))
 }
 
-// Reads one reply, of one line or more, into the area, a byte at a time. The area's length is the limit: a byte that comes
-// when it is full is taken from the link, and the reply is too long.
+// Reads on to the end of a line, a byte at a time, and answers where in the area it ends. A byte that comes when the area is
+// full is taken from the link, and the reply is too long.
+fn read_line<L: Link>(
+    link: &mut L,
+    area: &mut [u8],
+    start: usize,
+    verb: Option<Verb>,
+) -> Result<usize, Fault>
+    requires { start ≤ length area.old }
+    ensures answer { result ≡ line_answered verb (line_from (length area.old) start (L.means link.old)).got }
+    ensures area { area.new ≡ read_on start (line_from (length area.old) start (L.means link.old)).got (L.means link.old).coming area.old }
+    ensures link { L.means link.new ≡ leaving (line_from (length area.old) start (L.means link.old)).rest (L.means link.old) }
+    ensures within { IfOk result (λ end. (start < end) × (end ≤ length area.old)) }
+{
+    for stored in start..area.len() {
+        let byte = next_byte(link, stored, verb)?;
+        area[stored] = byte;
+        if byte == b'\n' {
+            return Ok(stored + 1);
+        }
+    }
+    next_byte(link, area.len(), verb)?;
+    Err(unfinished(Refusal::ReplyTooLong, verb, area.len()))
+}
+
+// Reads one reply, of one line or more, into the area. The area's length is the limit.
 pub fn read_response<L: Link>(
     link: &mut L,
     area: &mut [u8],
@@ -44,32 +66,16 @@ pub fn read_response<L: Link>(
     ensures reads { record { answer = result; area = area.new; link = L.means link.new } ≡ heard verb (reply rule (length area.old) (L.means link.old).ending (L.means link.old).coming) area.old (L.means link.old) }
     ensures rfc { ByGrammar rule (length area.old) (L.means link.old).coming result }
 {
-    let mut place = Place::First(rule);
+    let mut end = read_line(link, area, 0, verb)?;
+    let Some(last) = settled(rule, &area[..end]) else {
+        return Err(unfinished(Refusal::ReplyIllBegun, verb, end));
+    };
     let mut start = 0;
-    let mut stored = 0;
-    'bytes: loop {
-        let byte = next_byte(link, stored, verb)?;
-        if stored >= area.len() {
-            return Err(unfinished(Refusal::ReplyTooLong, verb, stored));
+    'lines: loop {
+        if let Some(code) = ending_code(last, &area[start..end]) {
+            return Ok(Reply { code, length: end });
         }
-        area[stored] = byte;
-        stored += 1;
-        if byte == b'\n' {
-            match judge(place, &area[start..stored]) {
-                Judged::IllBegun => {
-                    return Err(unfinished(Refusal::ReplyIllBegun, verb, stored));
-                }
-                Judged::Ends(code) => {
-                    return Ok(Reply {
-                        code,
-                        length: stored,
-                    });
-                }
-                Judged::GoesOn(last) => {
-                    place = Place::Later(last);
-                    start = stored;
-                }
-            }
-        }
+        start = end;
+        end = read_line(link, area, start, verb)?;
     }
 }

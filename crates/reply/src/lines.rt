@@ -1,6 +1,6 @@
 // The lines of a reply: how the first begins, which one is the last, and the code that the last one gives.
 ghost use Rattle.std.specs.Prelude.{◌≡◌};
-ghost use Rattle.reply.specs.Lines.{deciding, begun, opens_features, closing, ender, last_of, judge_by, judge};
+ghost use Rattle.reply.specs.Lines.{deciding, begun, opens_features, closing, ender, last_of, settled};
 
 use crate::reply::Rule;
 use text::is_digit;
@@ -12,23 +12,8 @@ pub enum Last {
     Features,
 }
 
-// Where a line stands: first, in a reply that ends by a rule; or later, where the first line has settled how it ends.
-#[derive(Clone, Copy)]
-pub enum Place {
-    First(Rule),
-    Later(Last),
-}
-
-// What a whole line says of its reply.
-#[derive(Clone, Copy)]
-pub enum Judged {
-    IllBegun,
-    Ends(u16),
-    GoesOn(Last),
-}
-
 // The code of a line that decides: three digits and a space.
-pub fn deciding_code(line: &[u8]) -> Option<u16>
+fn deciding_code(line: &[u8]) -> Option<u16>
     ensures { result ≡ deciding line.now }
 {
     match *line {
@@ -40,7 +25,7 @@ pub fn deciding_code(line: &[u8]) -> Option<u16>
 }
 
 // Whether a first line has five bytes and begins with three digits and a space or a hyphen.
-pub fn well_begun(line: &[u8]) -> bool
+fn well_begun(line: &[u8]) -> bool
     ensures { result ≡ begun line.now }
 {
     matches!(*line, [a, b, c, b' ' | b'-', _, ..] if is_digit(a) && is_digit(b) && is_digit(c))
@@ -70,38 +55,19 @@ fn last_of(rule: Rule, first: &[u8]) -> Last
     }
 }
 
+// Which line will be the last, or none where the first line is ill begun.
+pub fn settled(rule: Rule, first: &[u8]) -> Option<Last>
+    ensures { result ≡ settled rule first.now }
+{
+    well_begun(first).then_some(last_of(rule, first))
+}
+
 // The code of a line that is the last.
-fn ending_code(last: Last, line: &[u8]) -> Option<u16>
+pub fn ending_code(last: Last, line: &[u8]) -> Option<u16>
     ensures { result ≡ ender last line.now }
 {
     match last {
         Last::Deciding => deciding_code(line),
         Last::Features => closing_code(line),
-    }
-}
-
-// What a line says where the first line has settled which one is the last.
-fn judge_by(last: Last, line: &[u8]) -> Judged
-    ensures { result ≡ judge_by last line.now }
-{
-    match ending_code(last, line) {
-        Some(code) => Judged::Ends(code),
-        None => Judged::GoesOn(last),
-    }
-}
-
-// What a whole line says of its reply.
-pub fn judge(place: Place, line: &[u8]) -> Judged
-    ensures { result ≡ judge place line.now }
-{
-    match place {
-        Place::First(rule) => {
-            if well_begun(line) {
-                judge_by(last_of(rule, line), line)
-            } else {
-                Judged::IllBegun
-            }
-        }
-        Place::Later(last) => judge_by(last, line),
     }
 }

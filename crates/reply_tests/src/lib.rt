@@ -9,14 +9,15 @@ mod tests {
     use std::alloc::Global;
     use std::test::Fail;
 
-    // The refusal's number or 0, the code, the length, and how many bytes were taken.
-    fn heard(link: &mut Buffers<'_>, area: &mut [u8], rule: Rule) -> (u8, u16, usize, usize) {
-        let answer = read_response(link, area, rule, Some(Verb::Noop));
-        let taken = link.taken();
-        match answer {
-            Ok(reply) => (0, reply.code, reply.length, taken),
-            Err(fault) => (fault.number(), fault.code, fault.length, taken),
-        }
+    // The code and the length of a reply, or a refusal's number, code and length.
+    type Answer = Result<(u16, usize), (u8, u16, usize)>;
+
+    // What was answered, and how many bytes were taken so far.
+    fn heard(link: &mut Buffers<'_>, area: &mut [u8], rule: Rule) -> (Answer, usize) {
+        let answer = read_response(link, area, rule, Some(Verb::Noop))
+            .map(|reply| (reply.code, reply.length))
+            .map_err(|fault| (fault.number(), fault.code, fault.length));
+        (answer, link.taken())
     }
 
     // A reply of one line that has `length` bytes.
@@ -35,11 +36,17 @@ mod tests {
         let mut out = [0u8; 1];
         let mut area = [7u8; 12];
         let mut link = Buffers::new(&mut out, b"220 hi\r\n226 \n20", Ending::Closed);
-        assert_eq!(rt; heard(&mut link, &mut area, Rule::Usual), (0, 220, 8, 8));
+        assert_eq!(rt; heard(&mut link, &mut area, Rule::Usual), (Ok((220, 8)), 8));
         assert_eq!(rt; &area, b"220 hi\r\n\x07\x07\x07\x07");
-        assert_eq!(rt; heard(&mut link, &mut area, Rule::Usual), (0, 226, 5, 13));
+        assert_eq!(rt;
+            heard(&mut link, &mut area, Rule::Usual),
+            (Ok((226, 5)), 13)
+        );
         assert_eq!(rt; &area, b"226 \ni\r\n\x07\x07\x07\x07");
-        assert_eq!(rt; heard(&mut link, &mut area, Rule::Usual), (13, 0, 2, 15));
+        assert_eq!(rt;
+            heard(&mut link, &mut area, Rule::Usual),
+            (Err((13, 0, 2)), 15)
+        );
         assert_eq!(rt; &area, b"206 \ni\r\n\x07\x07\x07\x07");
     }
 
@@ -52,8 +59,14 @@ mod tests {
             b"250-a\r\n b\r\n226 c\r\n220-a\r\n",
             Ending::Closed,
         );
-        assert_eq!(rt; heard(&mut link, &mut area, Rule::Usual), (0, 226, 18, 18));
-        assert_eq!(rt; heard(&mut link, &mut area, Rule::Usual), (13, 0, 7, 25));
+        assert_eq!(rt;
+            heard(&mut link, &mut area, Rule::Usual),
+            (Ok((226, 18)), 18)
+        );
+        assert_eq!(rt;
+            heard(&mut link, &mut area, Rule::Usual),
+            (Err((13, 0, 7)), 25)
+        );
     }
 
     #[test]
@@ -62,10 +75,22 @@ mod tests {
         let mut area = [7u8; 5];
         // each as long as the area or shorter, and no byte behind it is taken
         let mut link = Buffers::new(&mut out, b"220\r\n220\n+12 \n220_\n", Ending::Closed);
-        assert_eq!(rt; heard(&mut link, &mut area, Rule::Usual), (16, 0, 5, 5));
-        assert_eq!(rt; heard(&mut link, &mut area, Rule::Usual), (16, 0, 4, 9));
-        assert_eq!(rt; heard(&mut link, &mut area, Rule::Feat), (16, 0, 5, 14));
-        assert_eq!(rt; heard(&mut link, &mut area, Rule::Usual), (16, 0, 5, 19));
+        assert_eq!(rt;
+            heard(&mut link, &mut area, Rule::Usual),
+            (Err((16, 0, 5)), 5)
+        );
+        assert_eq!(rt;
+            heard(&mut link, &mut area, Rule::Usual),
+            (Err((16, 0, 4)), 9)
+        );
+        assert_eq!(rt;
+            heard(&mut link, &mut area, Rule::Feat),
+            (Err((16, 0, 5)), 14)
+        );
+        assert_eq!(rt;
+            heard(&mut link, &mut area, Rule::Usual),
+            (Err((16, 0, 5)), 19)
+        );
         assert_eq!(rt; &area, b"220_\n");
     }
 
@@ -74,7 +99,10 @@ mod tests {
         let mut out = [0u8; 1];
         let mut area = [7u8; 3];
         let mut link = Buffers::new(&mut out, b"220", Ending::Closed);
-        assert_eq!(rt; heard(&mut link, &mut area, Rule::Usual), (13, 0, 3, 3));
+        assert_eq!(rt;
+            heard(&mut link, &mut area, Rule::Usual),
+            (Err((13, 0, 3)), 3)
+        );
     }
 
     #[test]
@@ -82,9 +110,18 @@ mod tests {
         let mut out = [0u8; 1];
         let mut area = [7u8; 3];
         let mut link = Buffers::new(&mut out, b"220 22", Ending::Broken);
-        assert_eq!(rt; heard(&mut link, &mut area, Rule::Usual), (15, 0, 3, 4));
-        assert_eq!(rt; heard(&mut link, &mut area, Rule::Usual), (14, 0, 2, 6));
-        assert_eq!(rt; heard(&mut link, &mut area, Rule::Usual), (14, 0, 0, 6));
+        assert_eq!(rt;
+            heard(&mut link, &mut area, Rule::Usual),
+            (Err((15, 0, 3)), 4)
+        );
+        assert_eq!(rt;
+            heard(&mut link, &mut area, Rule::Usual),
+            (Err((14, 0, 2)), 6)
+        );
+        assert_eq!(rt;
+            heard(&mut link, &mut area, Rule::Usual),
+            (Err((14, 0, 0)), 6)
+        );
         assert_eq!(rt; &area, b"220");
     }
 
@@ -94,10 +131,19 @@ mod tests {
         let mut area = [7u8; 32];
         let coming = b"211-a\r\n200 b\r\n211 c\r\n500-a\r\n502 b\r\n211 d\r\n211-a\r\n200 b\r\n";
         let mut link = Buffers::new(&mut out, coming, Ending::Closed);
-        assert_eq!(rt; heard(&mut link, &mut area, Rule::Feat), (0, 211, 21, 21));
-        assert_eq!(rt; heard(&mut link, &mut area, Rule::Feat), (0, 502, 14, 35));
-        assert_eq!(rt; heard(&mut link, &mut area, Rule::Feat), (0, 211, 7, 42));
-        assert_eq!(rt; heard(&mut link, &mut area, Rule::Usual), (0, 200, 14, 56));
+        assert_eq!(rt;
+            heard(&mut link, &mut area, Rule::Feat),
+            (Ok((211, 21)), 21)
+        );
+        assert_eq!(rt;
+            heard(&mut link, &mut area, Rule::Feat),
+            (Ok((502, 14)), 35)
+        );
+        assert_eq!(rt; heard(&mut link, &mut area, Rule::Feat), (Ok((211, 7)), 42));
+        assert_eq!(rt;
+            heard(&mut link, &mut area, Rule::Usual),
+            (Ok((200, 14)), 56)
+        );
     }
 
     #[test]
@@ -108,12 +154,15 @@ mod tests {
         let mut link = Buffers::new(&mut out, line.as_slice(), Ending::Closed);
         assert_eq!(rt;
             heard(&mut link, &mut area, Rule::Usual),
-            (0, 220, 512, 512)
+            (Ok((220, 512)), 512)
         );
         let longer = long_line(rt.alloc(), 513)?;
         let mut other = [0u8; 1];
         let mut over = Buffers::new(&mut other, longer.as_slice(), Ending::Closed);
-        assert_eq!(rt; heard(&mut over, &mut area, Rule::Usual), (15, 0, 512, 513));
+        assert_eq!(rt;
+            heard(&mut over, &mut area, Rule::Usual),
+            (Err((15, 0, 512)), 513)
+        );
         Ok(())
     }
 
@@ -125,14 +174,14 @@ mod tests {
         let mut link = Buffers::new(&mut out, line.as_slice(), Ending::Closed);
         assert_eq!(rt;
             heard(&mut link, area.as_mut_slice(), Rule::Usual),
-            (0, 220, 262_144, 262_144)
+            (Ok((220, 262_144)), 262_144)
         );
         let longer = long_line(rt.alloc(), 262_145)?;
         let mut other = [0u8; 1];
         let mut over = Buffers::new(&mut other, longer.as_slice(), Ending::Closed);
         assert_eq!(rt;
             heard(&mut over, area.as_mut_slice(), Rule::Usual),
-            (15, 0, 262_144, 262_145)
+            (Err((15, 0, 262_144)), 262_145)
         );
         Ok(())
     }

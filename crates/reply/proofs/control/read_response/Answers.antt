@@ -1,35 +1,40 @@
 use Rattle.std.proofs.Common.{refl, ap}
 use Rattle.std.proofs.lemmas.Result.{err_from_is_err_and}
+use Rattle.std.specs.List.{between}
 use Rattle.reply.proofs.Grammars.{by_grammar}
-use Rattle.reply.proofs.Reading.{begins, at_close, at_limit, at_middle, at_end, at_ill, at_next}
+use Rattle.reply.proofs.Reading.{begins, at_lost, at_whole, at_ill, at_end, at_more, says_else, opened, ill_first, ended, goes_on}
 use Rattle.reply.proofs.control.read_response.Goals as goal
 
-pub bytes-init : goal.bytes-init
-bytes-init g c = begins _ _ _
-
-pub returns-in_err-byte : goal.returns-in_err-byte
-returns-in_err-byte g c =
+pub returns-in_err-end : goal.returns-in_err-end
+returns-in_err-end g c =
     let p = err_from_is_err_and c.from_residual.result c.from_residual.ensures.1 in
-    let h = at_close c.args.rule _ _ c.args.verb _ _ _ _ _ _ c.bytes.invariant c.next_byte.ensures.after _ c.in_err-byte.ensures.value in
+    let h = at_lost c.args.rule _ _ c.args.verb _ _ _ _ (begins _ _ _) _ _ _ refl c.read_line.ensures.area c.read_line.ensures.link _ refl _ c.in_err-end.ensures.answer in
     rw (p.1, p.2) (record { reads = h; rfc = by_grammar _ _ _ _ c.args.verb _ (ap (λ z. z.answer) h) })
 
-pub returns-then-stored-area : goal.returns-then-stored-area
-returns-then-stored-area g c =
-    let h = at_limit c.args.rule _ _ c.args.verb _ _ _ _ _ _ c.bytes.invariant c.next_byte.ensures.after _ c.in_ok-byte.ensures.value _ c.unfinished.ensures c.if-stored-area.true in
+pub returns-in_default : goal.returns-in_default
+returns-in_default g c =
+    let k = at_whole c.args.rule _ _ c.args.verb _ _ _ _ (begins _ _ _) _ _ _ refl c.read_line.ensures.area c.read_line.ensures.link _ refl _ c.in_ok-end.ensures.answer in
+    let h = at_ill _ _ _ c.args.verb _ _ _ _ _ k _ c.unfinished.ensures (ill_first c.args.rule c.read_line.new.area c.in_ok-end.end _ c.settled.ensures c.in_default.not-Some) in
     record { reads = h; rfc = by_grammar _ _ _ _ c.args.verb _ (ap (λ z. z.answer) h) }
 
-pub returns-in-IllBegun : goal.returns-in-IllBegun
-returns-in-IllBegun g c =
-    let h = at_ill c.args.rule _ _ c.args.verb _ _ _ _ _ _ c.bytes.invariant c.next_byte.ensures.after _ c.in_ok-byte.ensures.value c.if-stored-area.false c.if-byte-eq10.true _ c.in-IllBegun.ensures _ c.unfinished-in-IllBegun.ensures refl in
+pub lines-init : goal.lines-init
+lines-init g c =
+    let k = at_whole c.args.rule _ _ c.args.verb _ _ _ _ (begins _ _ _) _ _ _ refl c.read_line.ensures.area c.read_line.ensures.link _ refl _ c.in_ok-end.ensures.answer in
+    says_else _ _ _ _ _ _ _ _ _ k (opened c.args.rule c.read_line.new.area c.in_ok-end.end _ c.in-Some.ensures)
+
+pub returns-in-Some-ending_code : goal.returns-in-Some-ending_code
+returns-in-Some-ending_code g c =
+    let h = at_end _ _ _ c.args.verb _ _ _ _ _ c.lines.invariant _ (ended c.in-Some.last (between c.lines.start c.lines.end c.lines.area) _ c.in-Some-ending_code.ensures) in
     record { reads = h; rfc = by_grammar _ _ _ _ c.args.verb _ (ap (λ z. z.answer) h) }
 
-pub returns-in-Ends : goal.returns-in-Ends
-returns-in-Ends g c =
-    let h = at_end c.args.rule _ _ c.args.verb _ _ _ _ _ _ c.bytes.invariant c.next_byte.ensures.after _ c.in_ok-byte.ensures.value c.if-stored-area.false c.if-byte-eq10.true _ c.in-Ends.ensures _ refl refl in
-    record { reads = h; rfc = by_grammar _ _ _ _ c.args.verb _ (ap (λ z. z.answer) h) }
+pub returns-in_err-end-2 : goal.returns-in_err-end-2
+returns-in_err-end-2 g c =
+    let p = err_from_is_err_and c.from_residual-in_err-end-2.result c.from_residual-in_err-end-2.ensures.1 in
+    let k = at_more _ _ _ c.args.verb _ _ _ _ _ c.lines.invariant c.in-Some.last (goes_on c.in-Some.last (between c.lines.start c.lines.end c.lines.area) _ c.ending_code.ensures c.in_default-ending_code.not-Some) in
+    let h = at_lost c.args.rule _ _ c.args.verb _ _ _ _ k _ _ _ refl c.read_line-in-lines.ensures.area c.read_line-in-lines.ensures.link _ refl _ c.in_err-end-2.ensures.answer in
+    rw (p.1, p.2) (record { reads = h; rfc = by_grammar _ _ _ _ c.args.verb _ (ap (λ z. z.answer) h) })
 
-pub bytes-preserved-in-GoesOn : goal.bytes-preserved-in-GoesOn
-bytes-preserved-in-GoesOn g c = at_next c.args.rule _ _ c.args.verb _ _ _ _ _ _ c.bytes.invariant c.next_byte.ensures.after _ c.in_ok-byte.ensures.value c.if-stored-area.false c.if-byte-eq10.true _ c.in-GoesOn.ensures _ refl
-
-pub bytes-preserved : goal.bytes-preserved
-bytes-preserved g c = at_middle c.args.rule _ _ c.args.verb _ _ _ _ _ _ c.bytes.invariant c.next_byte.ensures.after _ c.in_ok-byte.ensures.value c.if-stored-area.false c.if-byte-eq10.false
+pub lines-preserved : goal.lines-preserved
+lines-preserved g c =
+    let k = at_more _ _ _ c.args.verb _ _ _ _ _ c.lines.invariant c.in-Some.last (goes_on c.in-Some.last (between c.lines.start c.lines.end c.lines.area) _ c.ending_code.ensures c.in_default-ending_code.not-Some) in
+    at_whole c.args.rule _ _ c.args.verb _ _ _ _ k _ _ _ refl c.read_line-in-lines.ensures.area c.read_line-in-lines.ensures.link _ refl _ c.in_ok-end-2.ensures.answer
