@@ -97,8 +97,7 @@ impl Error for Problem {}
 
 impl fmt::Display for ScriptError {
     fn fmt<W: fmt::Write>(&self, f: &mut fmt::Formatter<W>) -> fmt::Result {
-        let line = self.line;
-        let problem = self.problem;
+        let ScriptError { line, problem } = self;
         write!(f, "line {line}: {problem}")
     }
 }

@@ -13,12 +13,7 @@ pub(crate) enum NumeralError {
 pub(crate) fn hex_digit(byte: u8) -> Option<u8>
     ensures { result ≡ hex_digit_of byte }
 {
-    match byte {
-        b'0'..=b'9' => Some(byte - b'0'),
-        b'a'..=b'f' => Some(byte - b'a' + 10),
-        b'A'..=b'F' => Some(byte - b'A' + 10),
-        _ => None,
-    }
+    char::from(byte).to_digit(16).map(|digit| digit as u8)
 }
 
 // The number that two hexadecimal digits write.
