@@ -55,6 +55,7 @@ impl From<QuoteError> for Problem {
     }
 }
 
+// The library has two errors for too little memory, with and without the value that was not stored.
 impl From<AllocError> for Problem {
     ghost from_gives = { λ _ r. r ≡ OutOfMemory };
 

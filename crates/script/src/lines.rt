@@ -143,6 +143,7 @@ impl Draft {
 // Reads a script; nothing comes of one that has an error.
 pub fn parse(heap: Global, text: &[u8]) -> Result<Script, ScriptError> {
     let mut draft = Draft::new(heap);
+    // Counted here and not by `enumerate`, since too little memory at the end is told of the last line.
     let mut number = 0;
     for line in (Lines { rest: text }) {
         number += 1;

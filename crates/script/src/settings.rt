@@ -54,16 +54,16 @@ impl Said {
             SettingName::Nat => once(&mut self.nat_workaround, words.choice()?),
             SettingName::Peer => once(&mut self.peer, words.address()?),
             SettingName::Callers => once(&mut self.peer_rule, words.choice()?),
-            SettingName::Limit => once(&mut self.limit, words.number(u64::MAX)? as usize),
+            SettingName::Limit => once(&mut self.limit, words.number(u64::MAX)?),
             SettingName::Encoding => once(&mut self.encoding, words.choice()?),
             SettingName::Room => once(
                 &mut self.room,
                 Room {
-                    bytes: words.number(MOST_ROOM)? as usize,
+                    bytes: words.number(MOST_ROOM)?,
                 },
             ),
             SettingName::Ending => once(&mut self.ending, words.choice()?),
-            SettingName::Fill => once(&mut self.fill, words.number(u8::MAX.into())? as u8),
+            SettingName::Fill => once(&mut self.fill, words.number(u8::MAX.into())?),
         }
     }
 
