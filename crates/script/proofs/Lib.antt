@@ -1,4 +1,3 @@
 mod Numbers
 mod Quotes
 mod Choices
-mod Cuts

@@ -15,11 +15,13 @@ octet_by (Err e) = None
 abbrev pub octet_of : List ℕ → Option ℕ
 octet_of cs = octet_by (numeral_of cs)
 
+-- Two bytes, if both are there, are one number of 16 bits, the high byte first.
 abbrev pub joined : Option ℕ → Option ℕ → Option ℕ
 joined None low = None
 joined (Some high) None = None
 joined (Some high) (Some low) = Some (high * 256 + low)
 
+-- The number that four hexadecimal digits write.
 abbrev pub four_digits_of : ℕ → ℕ → ℕ → ℕ → Option ℕ
 four_digits_of a b c d = joined (hex_pair_of a b) (hex_pair_of c d)
 

@@ -17,22 +17,28 @@ abbrev pub by_table : {A : Type 0} → List (List ℕ × A) → List ℕ → Opt
 by_table [] w = None
 by_table (row ∷ rows) w = cond (bytes_eq w row.0) (Some row.1) (by_table rows w)
 
+-- How data connections are made.
 abbrev pub mode_of : List ℕ → Option Mode
 mode_of w =
     by_table ((codes "passive", Passive) ∷ ((codes "extended", ExtendedPassive) ∷ ((codes "active", Active) ∷ []))) w
 
+-- Whether a switch is on.
 abbrev pub switch_of : List ℕ → Option Bool
 switch_of w = by_table ((codes "on", true) ∷ ((codes "off", false) ∷ [])) w
 
+-- Whose data connections are accepted in active mode.
 abbrev pub peer_rule_of : List ℕ → Option PeerRule
 peer_rule_of w = by_table ((codes "peer", ControlPeer) ∷ ((codes "any", Any) ∷ [])) w
 
+-- The encoding of the control connection.
 abbrev pub encoding_name_of : List ℕ → Option EncodingName
 encoding_name_of w = by_table ((codes "utf-8", Utf8) ∷ []) w
 
+-- What comes after the server's bytes.
 abbrev pub ending_of : List ℕ → Option Ending
 ending_of w = by_table ((codes "closed", Closed) ∷ ((codes "broken", Broken) ∷ [])) w
 
+-- The format of a type.
 abbrev pub format_control_of : List ℕ → Option FormatControl
 format_control_of w =
     by_table ((codes "nonprint", NonPrint) ∷ ((codes "telnet", Telnet) ∷ ((codes "asa", Asa) ∷ []))) w

@@ -6,6 +6,7 @@ use Rattle.script.specs.declared.name.CallName.TheVariants.{Greet, Login, Cwd, C
 use Rattle.script.specs.declared.name.SettingName.{SettingName}
 use Rattle.script.specs.declared.name.SettingName.TheVariants.{Mode, Nat, Peer, Callers, Limit, Encoding, Room, Ending, Fill}
 
+-- The settings by their names.
 abbrev pub setting_name_of : List ℕ → Option SettingName
 setting_name_of w =
     by_table
@@ -17,6 +18,7 @@ setting_name_of w =
     ∷ ((codes "encoding", Encoding) ∷ ((codes "room", Room) ∷ ((codes "ending", Ending) ∷ ((codes "fill", Fill) ∷ [])))))))))
     w
 
+-- The calls by their names.
 abbrev pub call_name_of : List ℕ → Option CallName
 call_name_of w =
     by_table

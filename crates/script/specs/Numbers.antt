@@ -34,6 +34,7 @@ abbrev pub value_after : ℕ → List ℕ → ℕ
 value_after n [] = n
 value_after n (c ∷ cs) = value_after (n * 10 + (c - 48)) cs
 
+-- The number that digits write.
 abbrev pub value_of : List ℕ → ℕ
 value_of cs = value_after 0 cs
 

@@ -8,6 +8,7 @@ abbrev pub first_said : {A : Type 0} → Option A → A → Option A
 first_said None x = Some x
 first_said (Some y) x = Some y
 
+-- The answer to a setting, by what was said before.
 abbrev pub said_once : {A : Type 0} → Option A → Result (Unit {0}) Problem
 said_once None = Ok tt
 said_once (Some y) = Err SaidTwice

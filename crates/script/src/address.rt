@@ -61,6 +61,7 @@ pub(crate) fn read_address(word: &[u8]) -> Option<IpAddr>
     }
 }
 
+// One part after another, as the definitions have them; a loop that fills an array of four or eight is no plainer.
 fn read_v4(word: &[u8]) -> Option<IpAddr>
     ensures { result ≡ v4_of word.now }
 {

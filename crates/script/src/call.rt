@@ -40,13 +40,10 @@ pub(crate) fn read_lengths(words: &mut Words) -> Result<Option<Lengths>, Problem
     if words.name()? != Some("with") {
         return Err(Problem::ExtraWord);
     }
-    let reply = words.number(LONGEST_AREA)? as usize;
-    let wide = words.number(LONGEST_AREA)? as usize;
-    let narrow = words.number(LONGEST_AREA)? as usize;
     Ok(Some(Lengths {
-        reply,
-        wide,
-        narrow,
+        reply: words.number(LONGEST_AREA)?,
+        wide: words.number(LONGEST_AREA)?,
+        narrow: words.number(LONGEST_AREA)?,
     }))
 }
 
@@ -73,7 +70,7 @@ fn read_file_type(words: &mut Words) -> Result<FileType, Problem> {
         Some("ebcdic") => Ok(FileType::Ebcdic(read_format(words)?)),
         Some("image") => Ok(FileType::Image),
         Some("binary") => Ok(FileType::Binary),
-        Some("local") => Ok(FileType::Local(words.number(u8::MAX.into())? as u8)),
+        Some("local") => Ok(FileType::Local(words.number(u8::MAX.into())?)),
         _ => Err(Problem::UnknownChoice),
     }
 }

@@ -55,6 +55,7 @@ impl From<QuoteError> for Problem {
     }
 }
 
+// The library has two errors for too little memory, with and without the value that was not stored.
 impl From<AllocError> for Problem {
     ghost from_gives = { λ _ r. r ≡ OutOfMemory };
 
@@ -97,8 +98,7 @@ impl Error for Problem {}
 
 impl fmt::Display for ScriptError {
     fn fmt<W: fmt::Write>(&self, f: &mut fmt::Formatter<W>) -> fmt::Result {
-        let line = self.line;
-        let problem = self.problem;
+        let ScriptError { line, problem } = self;
         write!(f, "line {line}: {problem}")
     }
 }

@@ -16,7 +16,8 @@ pub(crate) fn read_answer(words: &mut Words) -> Result<Entry, Problem> {
 
 // An address and a port.
 fn read_socket(words: &mut Words) -> Result<SocketAddr, Problem> {
-    let ip = words.address()?;
-    let port = words.number(u16::MAX.into())? as u16;
-    Ok(SocketAddr { ip, port })
+    Ok(SocketAddr {
+        ip: words.address()?,
+        port: words.number(u16::MAX.into())?,
+    })
 }

@@ -1,7 +1,7 @@
 // A whole script, line by line.
-ghost use Rattle.std.specs.Prelude.{◌≡◌, ◌<◌, length, MatchOption};
+ghost use Rattle.std.specs.Prelude.{length};
 ghost use Rattle.std.specs.Iterator.{at_most};
-ghost use Rattle.script.specs.Cuts.{first_line, later_lines};
+ghost use Rattle.script.specs.Cuts.{GivesLine};
 
 use crate::call::{default_lengths, read_ask, read_lengths};
 use crate::choice::Named;
@@ -24,7 +24,7 @@ struct Lines<'a> {
 impl<'a> Iterator for Lines<'a> {
     type Item = &'a [u8];
 
-    ghost next_gives = { λ s r t. MatchOption r (length s.rest.now ≡ 0) (λ line. (0 < length s.rest.now) × (line.now ≡ first_line s.rest.now) × (t.rest.now ≡ later_lines s.rest.now)) };
+    ghost next_gives = { λ s r t. GivesLine (λ line. line.now) s.rest.now r t.rest.now };
 
     ghost remaining = { λ s. at_most (length s.rest.now) };
 
@@ -143,6 +143,7 @@ impl Draft {
 // Reads a script; nothing comes of one that has an error.
 pub fn parse(heap: Global, text: &[u8]) -> Result<Script, ScriptError> {
     let mut draft = Draft::new(heap);
+    // Counted here and not by `enumerate`, since too little memory at the end is told of the last line.
     let mut number = 0;
     for line in (Lines { rest: text }) {
         number += 1;

@@ -1,5 +1,5 @@
 // Numbers as they are written: decimal digits, and the hexadecimal digits of escapes and of IPv6 groups.
-ghost use Rattle.std.specs.Prelude.{◌≡◌};
+ghost use Rattle.std.specs.Prelude.{◌≡◌, ◌+◌, ◌-◌, ◌*◌};
 ghost use Rattle.script.specs.Numbers.{hex_digit_of, hex_pair_of, numeral_of, all_digits, value_of, below_2^64};
 
 // Why a word is no number below 2^64.
@@ -13,12 +13,7 @@ pub(crate) enum NumeralError {
 pub(crate) fn hex_digit(byte: u8) -> Option<u8>
     ensures { result ≡ hex_digit_of byte }
 {
-    match byte {
-        b'0'..=b'9' => Some(byte - b'0'),
-        b'a'..=b'f' => Some(byte - b'a' + 10),
-        b'A'..=b'F' => Some(byte - b'A' + 10),
-        _ => None,
-    }
+    char::from(byte).to_digit(16).map(|digit| digit as u8)
 }
 
 // The number that two hexadecimal digits write.
@@ -46,15 +41,19 @@ fn all_digits(word: &[u8]) -> bool
     word.iter().all(|byte| byte.is_ascii_digit())
 }
 
-// The number that the digits write, if it is below 2^64. A byte below the digits counts for nothing here.
+// The number with a digit more at its end, if it is below 2^64. A byte below the digits counts for nothing here.
+fn with_digit(value: u64, digit: u8) -> Option<u64>
+    ensures { result ≡ below_2^64 (value * 10 + (digit - 48)) }
+{
+    value
+        .checked_mul(10)?
+        .checked_add(u64::from(digit.saturating_sub(b'0')))
+}
+
+// The number that the digits write, if it is below 2^64.
 fn small_value(word: &[u8]) -> Option<u64>
     ensures { result ≡ below_2^64 (value_of word.now) }
 {
-    let mut value = 0u64;
-    for byte in word {
-        value = value
-            .checked_mul(10)?
-            .checked_add(u64::from(byte.saturating_sub(b'0')))?;
-    }
-    Some(value)
+    word.iter()
+        .try_fold(0, |value, digit| with_digit(value, *digit))
 }

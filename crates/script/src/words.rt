@@ -1,5 +1,5 @@
 // The words of a line, one after another from the left.
-ghost use Rattle.std.specs.Prelude.{◌≡◌, ◌≤◌, drop, IfOk, IfSome, Some, OnOk};
+ghost use Rattle.std.specs.Prelude.{◌≡◌, ℕ, Ok, ◌≤◌, drop, length, ◌<◌, ◌↔◌, IsTrue, IsOkUnless, IfOk, IfSome, Some, OnOk, OnErr, slice_get};
 ghost use Rattle.script.specs.Addresses.{address_of};
 ghost use Rattle.script.specs.Cuts.{trimmed, first_word, past_word};
 ghost use Rattle.script.specs.Quotes.{meaning, bytes_of};
@@ -31,12 +31,18 @@ impl<'a> Words<'a> {
         }
     }
 
-    pub(crate) fn is_over(&self) -> bool {
+    pub(crate) fn is_over(&self) -> bool
+        ensures { IsTrue result ↔ (length self.now.rest.now ≡ 0) }
+    {
         self.rest.is_empty()
     }
 
     // Refuses more words.
-    pub(crate) fn end(&self) -> Result<(), Problem> {
+    pub(crate) fn end(&self) -> Result<(), Problem>
+        ensures over { OnOk result (length self.now.rest.now ≡ 0) }
+        ensures more { OnErr result (0 < length self.now.rest.now) }
+        ensures problem { IsOkUnless result Problem.ExtraWord }
+    {
         if self.is_over() {
             Ok(())
         } else {
@@ -63,7 +69,9 @@ impl<'a> Words<'a> {
         &self.rest[..word_length(self.rest)]
     }
 
-    pub(crate) fn is_comment(&self) -> bool {
+    pub(crate) fn is_comment(&self) -> bool
+        ensures { IsTrue result ↔ (slice_get self.now.rest.now 0 ≡ Some 35) }
+    {
         matches!(self.rest, [b'#', ..])
     }
 
@@ -105,11 +113,15 @@ impl<'a> Words<'a> {
     }
 
     // A number that is not above the greatest that may stand there.
-    pub(crate) fn number(&mut self, most: u64) -> Result<u64, Problem>
-        ensures { IfOk result (λ n. n ≤ most) }
+    pub(crate) fn number<T: TryFrom<u64>>(&mut self, most: u64) -> Result<T, Problem>
+    where
+        T::Error: Drop,
+        ensures { IfOk result (λ t. (n : ℕ) × (n ≤ most) × T.try_from_gives n (Ok t)) }
     {
         match read_number(self.word()?) {
-            Ok(value) if value <= most => Ok(value),
+            Ok(value) if value <= most => T::try_from(value).map_err(|_| Problem::NumberTooLarge(
+                most,
+            )),
             Ok(_) | Err(NumeralError::TooLarge) => Err(Problem::NumberTooLarge(most)),
             Err(NumeralError::NotANumber) => Err(Problem::NotANumber),
         }

@@ -1,17 +1,13 @@
--- One digit more, the digit that is too much, and the end. Assumes nothing.
-use Rattle.std.proofs.Common.{sym, arith, rules}
-use Rattle.std.proofs.lemmas.List.{drop_all}
-use Rattle.script.proofs.Numbers.{value_more, value_past, value_kept}
+-- All digits, and the digit that is too much. Assumes nothing.
+use Rattle.std.proofs.Common.{ℕ, rules, lit<}
+use Rattle.std.proofs.iter.Yields.{fronts}
+use Rattle.std.proofs.lemmas.Iterator.{YieldsList-from_slice}
+use Rattle.script.proofs.Numbers.{turns, tells, is_past}
 use Rattle.script.proofs.number.small_value.Goals as goal
 
-pub returns-in_err-checked_mul : goal.returns-in_err-checked_mul
-returns-in_err-checked_mul c = rw c.from_residual.ensures (sym (value_past c.loop-byte.value c.args.word.now c.loop-byte.byte-index _ c.loop-byte-test.true (omega (arith, c.in_err-checked_mul.ensures)) c.loop-byte.invariant.0))
-
-pub returns-in_err-value : goal.returns-in_err-value
-returns-in_err-value c = rw c.from_residual-in_err-value.ensures (sym (value_past c.loop-byte.value c.args.word.now c.loop-byte.byte-index _ c.loop-byte-test.true (omega (arith, c.in_err-value.ensures, c.in_ok-checked_mul.ensures)) c.loop-byte.invariant.0))
-
-pub loop-byte-preserved : goal.loop-byte-preserved
-loop-byte-preserved c = search (rules, value_more c.loop-byte.value c.args.word.now c.loop-byte.byte-index)
-
 pub returns : goal.returns
-returns c = search (rules, drop_all, value_kept c.loop-byte.value)
+returns c =
+    let d = c.try_fold.ensures.ran in
+    let t = turns (fronts {A = ℕ}) (λ b. b.now) _ (λ p x q r. search rules) d.0 c.args.word.now d.1 c.iter.result d.4.0 c.try_fold.new.self (tt, 0) (d.2, d.3)
+    (lit< tt) d.4.1 d.4.2 d.5 (YieldsList-from_slice {s = c.iter.result} c.args.word.now c.iter.ensures.rest).runs in
+    tells (λ b. b.now) _ d.1 c.try_fold.result d.3 _ t d.6 (λ x b. (b.5, is_past _ (search rules)))
