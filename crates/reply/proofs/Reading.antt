@@ -1,11 +1,10 @@
 -- The loops that read a line and a reply: what they keep, and what each way out of them owes. Assumes nothing.
-use Rattle.std.proofs.Common.{◌≡◌, ℕ, Bool, ◌+◌, ◌-◌, ◌<◌, ◌≤◌, true, false, cond, eqb, leb, List, [], ◌∷◌, ◌++◌, length, get_or, take, drop, set, Some, None, Ok, Err, Option, Result, sym, refl, ap, ◌∙◌, subst, ap₂, arith}
-use Rattle.std.proofs.lemmas.List.{drop-drop, drop_more, length-append, length-drop, length-take, length-take-le, take_at, take_more, take-append-drop}
+use Rattle.std.proofs.Common.{◌≡◌, ℕ, Bool, ◌+◌, ◌-◌, ◌<◌, ◌≤◌, true, false, cond, eqb, leb, List, [], ◌∷◌, ◌++◌, length, get_or, take, drop, set, Some, None, Ok, Err, Option, Result, sym, refl, ap, ◌∙◌, subst, ap₂, arith, append_assoc}
+use Rattle.std.proofs.lemmas.List.{drop-drop, drop_more, length-append, length-drop, length-take, length-take-le, take_at, take_more, take-append-drop, set_at, length_push}
 use Rattle.std.proofs.lemmas.Slice.{between_from_start, between_is, drop-append-drop}
 use Rattle.std.proofs.lemmas.Bool.{eq-eqb, ne_eqb, lt-leb}
 use Rattle.std.specs.List.{between}
 use Rattle.text.specs.Area.{laid}
-use Rattle.text.proofs.Laid.{laid_push}
 use Rattle.link.specs.Wire.{Wire, past, leaving}
 use Rattle.link.specs.declared.wire.Ending.{Ending}
 use Rattle.command.specs.declared.fault.Fault.{Fault}
@@ -17,6 +16,15 @@ use Rattle.reply.specs.declared.lines.Last.{Last}
 use Rattle.reply.specs.Lines.{Place, at_first, at_later, Judged, ill_begins, it_ends, it_goes_on, begun, last_of, settled, ender, said, judge_by, judge}
 use Rattle.reply.specs.Replies.{Unread, unread, cut, by_line, reply_on, reply, LineCut, line_cut, line_on, line_answered, reached, read_on, count, fault_of, came, answered, heard}
 use Rattle.reply.proofs.CutLines.{LineFacts, line_facts, by_lines, behind_line}
+
+-- one byte more behind those laid at the front of an area
+laid_push : (bytes area : List ℕ) (v : ℕ) → length bytes < length area → set (laid bytes area) (length bytes) v ≡ laid (bytes ++ v ∷ []) area
+laid_push bytes area v h =
+    let n = length bytes in
+    ap (λ z. set (bytes ++ z) n v) (drop_more area n 0 h)
+    ∙ set_at bytes (get_or area n 0) (drop (n + 1) area) v n refl
+    ∙ sym (append_assoc bytes (v ∷ []) (drop (n + 1) area))
+    ∙ ap (λ k. (bytes ++ v ∷ []) ++ drop k area) (sym (length_push bytes v))
 
 one_more : (verb : Option Verb) (n : ℕ) (ending : Ending) (cs : List ℕ) (b : ℕ) → Ok b ≡ came verb n ending cs → cs ≡ b ∷ drop 1 cs
 one_more verb n ending [] b e = cc

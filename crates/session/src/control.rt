@@ -1,6 +1,6 @@
 // The pieces that calls are made of: the first questions, a line, a reply, and a line with its reply.
 ghost use Rattle.std.specs.Prelude.{◌≡◌, Some, MatchResult};
-ghost use Rattle.std.specs.Option.{option_map};
+ghost use Rattle.command.specs.Lines.{argument_of};
 ghost use Rattle.session.specs.Model.{model};
 ghost use Rattle.session.specs.Areas.{desk_of, SameAreas, Serve};
 ghost use Rattle.session.specs.Calls.{none_read, fault, refusal, questions_of, perform_of, hear_of, expected_of, settled_by, exchange_of};
@@ -8,15 +8,10 @@ ghost use Rattle.session.specs.Calls.{none_read, fault, refusal, questions_of, p
 use crate::areas::Areas;
 use crate::session::Session;
 use carrier::Carrier;
-use command::{Command, Fault, Refusal, Verb, encode_line};
+use command::{Command, Fault, LONGEST_ENCODED, LONGEST_ESCAPED, Refusal, Verb, encode_line};
 use encoding::Encoding;
 use link::Link;
 use reply::{Reply, Rule, Status, is_expected, is_preliminary, read_response};
-
-// Room for the longest line, encoded and then escaped.
-const ENCODED: usize = 4352;
-
-const ESCAPED: usize = 8704;
 
 // No reply read yet.
 pub(crate) fn nothing_read() -> Reply
@@ -63,7 +58,7 @@ pub(crate) fn expect(expected: &[Status], verb: Option<Verb>, reply: Reply) -> R
 // A command with its argument.
 pub(crate) fn with_argument(verb: Verb, argument: &[u8]) -> Command<'_>
     ensures verb { result.verb ≡ verb }
-    ensures argument { option_map (λ x. x.now) result.argument ≡ Some argument.now }
+    ensures argument { argument_of result ≡ Some argument.now }
 {
     Command {
         verb,
@@ -78,8 +73,8 @@ impl<L: Link, C: Carrier, E: Encoding> Session<L, C, E> {
         ensures { result ≡ questions_of greeted (model L.Link.means C.Carrier.means E.Encoding.means self.now) (desk_of areas.now) }
     {
         if areas.reply.len() < self.kept.settings.limit
-            || areas.wide.len() < ESCAPED
-            || areas.narrow.len() < ENCODED
+            || areas.wide.len() < LONGEST_ESCAPED
+            || areas.narrow.len() < LONGEST_ENCODED
         {
             return Err(refused(Refusal::AreaTooShort));
         }
@@ -103,7 +98,7 @@ impl<L: Link, C: Carrier, E: Encoding> Session<L, C, E> {
         areas: &mut Areas<'_>,
     ) -> Result<(), Fault>
         requires { Serve self.old.kept.settings.limit areas.old }
-        ensures came { record { answer = result; after = model L.Link.means C.Carrier.means E.Encoding.means self.new; reply = areas.new.reply.now } ≡ perform_of command.entry.verb (option_map (λ x. x.now) command.entry.argument) last (model L.Link.means C.Carrier.means E.Encoding.means self.old) areas.old.reply.now }
+        ensures came { record { answer = result; after = model L.Link.means C.Carrier.means E.Encoding.means self.new; reply = areas.new.reply.now } ≡ perform_of command.entry.verb (argument_of command.entry) last (model L.Link.means C.Carrier.means E.Encoding.means self.old) areas.old.reply.now }
         ensures kept { self.new.kept ≡ self.old.kept }
         ensures same { SameAreas areas.old areas.new }
     {
@@ -153,7 +148,7 @@ impl<L: Link, C: Carrier, E: Encoding> Session<L, C, E> {
         areas: &mut Areas<'_>,
     ) -> Result<Reply, Fault>
         requires { Serve self.old.kept.settings.limit areas.old }
-        ensures came { record { answer = result; after = model L.Link.means C.Carrier.means E.Encoding.means self.new; reply = areas.new.reply.now } ≡ exchange_of command.entry.verb (option_map (λ x. x.now) command.entry.argument) expected.now last (model L.Link.means C.Carrier.means E.Encoding.means self.old) areas.old.reply.now }
+        ensures came { record { answer = result; after = model L.Link.means C.Carrier.means E.Encoding.means self.new; reply = areas.new.reply.now } ≡ exchange_of command.entry.verb (argument_of command.entry) expected.now last (model L.Link.means C.Carrier.means E.Encoding.means self.old) areas.old.reply.now }
         ensures same { SameAreas areas.old areas.new }
         ensures settings { self.new.kept.settings ≡ self.old.kept.settings }
     {

@@ -1,6 +1,6 @@
 // The commands of one line and one reply.
 ghost use Rattle.std.specs.Prelude.{◌≡◌};
-ghost use Rattle.std.specs.Option.{option_map};
+ghost use Rattle.command.specs.Lines.{argument_of as argument_in};
 ghost use Rattle.session.specs.Calls.{verb_of, argument_of, statuses_of};
 
 use command::{Command, Verb};
@@ -22,7 +22,7 @@ impl<'a> Plain<&'a [u8]> {
     // The line's verb and argument.
     pub fn command(self) -> Command<'a>
         ensures verb { result.verb ≡ verb_of self.entry }
-        ensures argument { option_map (λ x. x.now) result.argument ≡ argument_of self.entry }
+        ensures argument { argument_in result ≡ argument_of self.entry }
     {
         let (verb, argument) = match self {
             Plain::Cwd(path) => (Verb::Cwd, Some(path)),
