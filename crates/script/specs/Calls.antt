@@ -1,6 +1,7 @@
 -- What a call is lent. Assumes nothing.
-use Rattle.std.specs.Prelude.{ℕ, min, max}
+use Rattle.std.specs.Prelude.{◌≤◌}
+use Rattle.tally.specs.declared.calls.Lent.{Lent}
 
--- A limit below 512 or above 262,144 counts as the nearer of both.
-abbrev pub clamped : ℕ → ℕ
-clamped n = max 512 (min n 262144)
+-- no more than 1,048,576 bytes of any area
+abbrev pub Bounded : Lent → Type 0
+Bounded l = (l.reply ≤ 1048576) × (l.wide ≤ 1048576) × (l.narrow ≤ 1048576)

@@ -1,46 +1,41 @@
 // The lines that are calls.
-ghost use Rattle.std.specs.Prelude.{◌≡◌};
-ghost use Rattle.script.specs.Calls.{clamped};
+ghost use Rattle.std.specs.Prelude.{◌≡◌, IfOk, IfSome};
+ghost use Rattle.session.specs.Limits.{clamped};
+ghost use Rattle.script.specs.Calls.{Bounded};
 
 use crate::error::Problem;
 use crate::name::CallName;
-use crate::script::{Lengths, OwnedAsk};
+use crate::script::OwnedAsk;
 use crate::words::Words;
-use command::{FileType, FormatControl};
+use command::{FileType, FormatControl, LONGEST_ENCODED, LONGEST_ESCAPED};
+use session::{Plain, Settings};
+use tally::{Ask, Lent};
 
 // The most bytes of one lent area.
 const LONGEST_AREA: u64 = 1_048_576;
 
-// The least and the most bytes of one reply that a session goes by.
-const LEAST_REPLY: usize = 512;
-
-const MOST_REPLY: usize = 262_144;
-
-// The bytes of both areas for a command and its reply.
-const WIDE: usize = 8704;
-
-const NARROW: usize = 4352;
-
-// The areas that a call is lent where its line says nothing of them: exactly what a session of this limit asks for.
-pub(crate) fn default_lengths(limit: usize) -> Lengths
-    ensures { (result.reply ≡ clamped limit) × (result.wide ≡ 8704) × (result.narrow ≡ 4352) }
+// The areas that a call is lent where its line says nothing of them: exactly what a session with these settings asks for.
+pub(crate) fn default_lengths(settings: &Settings) -> Lent
+    ensures { (result.reply ≡ clamped settings.now.limit) × (result.wide ≡ 8704) × (result.narrow ≡ 4352) }
 {
-    Lengths {
-        reply: limit.clamp(LEAST_REPLY, MOST_REPLY),
-        wide: WIDE,
-        narrow: NARROW,
+    Lent {
+        reply: settings.clamped_limit(),
+        wide: LONGEST_ESCAPED,
+        narrow: LONGEST_ENCODED,
     }
 }
 
 // The lengths at a call's end, if any are said.
-pub(crate) fn read_lengths(words: &mut Words) -> Result<Option<Lengths>, Problem> {
+pub(crate) fn read_lengths(words: &mut Words) -> Result<Option<Lent>, Problem>
+    ensures { IfOk result (λ o. IfSome o Bounded) }
+{
     if words.is_over() {
         return Ok(None);
     }
     if words.name()? != Some("with") {
         return Err(Problem::ExtraWord);
     }
-    Ok(Some(Lengths {
+    Ok(Some(Lent {
         reply: words.number(LONGEST_AREA)?,
         wide: words.number(LONGEST_AREA)?,
         narrow: words.number(LONGEST_AREA)?,
@@ -49,18 +44,18 @@ pub(crate) fn read_lengths(words: &mut Words) -> Result<Option<Lengths>, Problem
 
 pub(crate) fn read_ask(name: CallName, words: &mut Words) -> Result<OwnedAsk, Problem> {
     match name {
-        CallName::Greet => Ok(OwnedAsk::Greet),
-        CallName::Login => Ok(OwnedAsk::Login(words.text()?, words.text()?)),
-        CallName::Cwd => Ok(OwnedAsk::Cwd(words.text()?)),
-        CallName::Cdup => Ok(OwnedAsk::Cdup),
-        CallName::Dele => Ok(OwnedAsk::Dele(words.text()?)),
-        CallName::Rmd => Ok(OwnedAsk::Rmd(words.text()?)),
-        CallName::Mkd => Ok(OwnedAsk::Mkd(words.text()?)),
-        CallName::Noop => Ok(OwnedAsk::Noop),
-        CallName::Quit => Ok(OwnedAsk::Quit),
-        CallName::Rename => Ok(OwnedAsk::Rename(words.text()?, words.text()?)),
-        CallName::TransferType => Ok(OwnedAsk::TransferType(read_file_type(words)?)),
-        CallName::Resume => Ok(OwnedAsk::Resume(words.number(u64::MAX)?)),
+        CallName::Greet => Ok(Ask::Greet),
+        CallName::Login => Ok(Ask::Login(words.text()?, words.text()?)),
+        CallName::Cwd => Ok(Ask::Plain(Plain::Cwd(words.text()?))),
+        CallName::Cdup => Ok(Ask::Plain(Plain::Cdup)),
+        CallName::Dele => Ok(Ask::Plain(Plain::Dele(words.text()?))),
+        CallName::Rmd => Ok(Ask::Plain(Plain::Rmd(words.text()?))),
+        CallName::Mkd => Ok(Ask::Plain(Plain::Mkd(words.text()?))),
+        CallName::Noop => Ok(Ask::Plain(Plain::Noop)),
+        CallName::Quit => Ok(Ask::Plain(Plain::Quit)),
+        CallName::Rename => Ok(Ask::Rename(words.text()?, words.text()?)),
+        CallName::TransferType => Ok(Ask::TransferType(read_file_type(words)?)),
+        CallName::Resume => Ok(Ask::Resume(words.number(u64::MAX)?)),
     }
 }
 

@@ -18,4 +18,4 @@ mod words;
 pub use choice::EncodingName;
 pub use error::{Problem, ScriptError};
 pub use lines::parse;
-pub use script::{Lengths, OwnedAsk, Script, Step};
+pub use script::{OwnedAsk, Script, Step};

@@ -1,6 +1,8 @@
 // A whole script, line by line.
-ghost use Rattle.std.specs.Prelude.{length};
+ghost use Rattle.std.specs.Prelude.{length, IfSome};
 ghost use Rattle.std.specs.Iterator.{at_most};
+ghost use Rattle.std.proofs.Props.{props};
+ghost use Rattle.script.specs.Calls.{Bounded};
 ghost use Rattle.script.specs.Cuts.{GivesLine};
 
 use crate::call::{default_lengths, read_ask, read_lengths};
@@ -9,11 +11,13 @@ use crate::cut::split_once;
 use crate::error::{Problem, ScriptError};
 use crate::host::read_answer;
 use crate::name::{CallName, SettingName};
-use crate::script::{Lengths, OwnedAsk, Script, Step};
+use crate::script::{OwnedAsk, Script, Step};
 use crate::settings::Said;
 use crate::words::Words;
 use carrier::Entry;
+use session::Settings;
 use std::alloc::{AllocError, Global};
+use tally::Lent;
 
 // The lines of a text that are left, each without its byte 10.
 #[derive(Drop)]
@@ -51,17 +55,18 @@ struct Draft {
 struct Call {
     line: usize,
     ask: OwnedAsk,
-    lent: Option<Lengths>,
+    lent: Option<Lent>,
+    ghost bounded: { IfSome lent Bounded } by { Prim.hlevel props },
 }
 
 impl Call {
-    // The step of a script with this limit.
-    fn step(self, limit: usize) -> Step {
+    // The step of a script with these settings.
+    fn step(self, settings: &Settings) -> Step {
         let Call { line, ask, lent } = self;
         Step {
             line,
             ask,
-            lent: lent.unwrap_or(default_lengths(limit)),
+            lent: lent.unwrap_or(default_lengths(settings)),
         }
     }
 }
@@ -125,7 +130,7 @@ impl Draft {
         let settings = said.settings();
         let steps = calls
             .into_iter()
-            .map(|call| call.step(settings.limit))
+            .map(|call| call.step(&settings))
             .collect(heap)?;
         Ok(Script {
             settings,

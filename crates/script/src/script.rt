@@ -3,9 +3,9 @@ ghost use Rattle.std.specs.Prelude.{◌≤◌};
 
 use crate::choice::EncodingName;
 use carrier::Entry;
-use command::FileType;
 use link::Ending;
 use session::Settings;
+use tally::{Ask, Lent};
 
 #[derive(Drop)]
 pub struct Script {
@@ -24,37 +24,16 @@ pub struct Script {
     ghost room_bound: { room ≤ 16777216 },
 }
 
+// What is asked of the session, with its texts.
+pub type OwnedAsk = Ask<Vec<u8>>;
+
 // One call, with the line of the script that it stands in.
 #[derive(Drop)]
 pub struct Step {
     pub line: usize,
     pub ask: OwnedAsk,
-    pub lent: Lengths,
-}
-
-#[derive(Drop)]
-pub enum OwnedAsk {
-    Greet,
-    Login(Vec<u8>, Vec<u8>),
-    Cwd(Vec<u8>),
-    Cdup,
-    Dele(Vec<u8>),
-    Rmd(Vec<u8>),
-    Mkd(Vec<u8>),
-    Noop,
-    Quit,
-    Rename(Vec<u8>, Vec<u8>),
-    TransferType(FileType),
-    Resume(u64),
-}
-
-// How long the areas are that are lent to a call.
-#[derive(Clone, Copy)]
-pub struct Lengths {
-    pub reply: usize,
-    pub wide: usize,
-    pub narrow: usize,
-    ghost reply_bound: { reply ≤ 1048576 },
-    ghost wide_bound: { wide ≤ 1048576 },
-    ghost narrow_bound: { narrow ≤ 1048576 },
+    pub lent: Lent,
+    ghost reply_bound: { lent.reply ≤ 1048576 },
+    ghost wide_bound: { lent.wide ≤ 1048576 },
+    ghost narrow_bound: { lent.narrow ≤ 1048576 },
 }
