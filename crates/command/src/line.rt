@@ -74,9 +74,7 @@ fn encode_text<E: Encoding>(encoding: &E, text: &[u8], narrow: &mut [u8]) -> Res
     ensures line { escaped (line_told result narrow.new) ≡ encoded ((E.means encoding.now).encode text.now) }
     ensures within { line_length result ≤ LONGEST_ENCODED }
 {
-    let length = encoding
-        .encode(text, narrow)
-        .ok_or(Refusal::NoEncoding)?;
+    let length = encoding.encode(text, narrow).ok_or(Refusal::NoEncoding)?;
     validate_encoded(&narrow[..length])?;
     Ok(length)
 }

@@ -1,4 +1,4 @@
-use Rattle.std.proofs.Common.{◌≤◌, ◌++◌, drop, length, ap, subst, sym, ◌∙◌, Err, arith, length-take}
+use Rattle.std.proofs.Common.{◌≤◌, drop, length, ap, subst, sym, ◌∙◌, Err, arith, length-take}
 use Rattle.std.proofs.lemmas.Result.{err_from_is_err_and}
 use Rattle.command.specs.Lines.{argument_of, line_told, line_length}
 use Rattle.command.proofs.Makes.{line_refused_early, line_from_text, told_is, told_short, line_written}
