@@ -2,7 +2,7 @@
 ghost use Rattle.std.specs.Prelude.{◌≡◌, ℕ, List, Option, length, Some, nat_le};
 ghost use Rattle.std.specs.Iterator.{IsFinite, item_count};
 ghost use Rattle.text.specs.Area.{filled, Spells, joined};
-ghost use denote.Ref.{Bor};
+ghost use Rattle.std.specs.Borrow.{Bor};
 
 // Bytes that come in pieces: an iterator that says which bytes the pieces that are still to come have together.
 pub trait Pieces<'a>: Iterator<Item = &'a [u8]> + Copy {
