@@ -67,6 +67,7 @@ pub fn write_front<'a, P: Pieces<'a>>(pieces: P, area: &mut [u8]) -> Option<usiz
     if !fit(pieces, area.len()) {
         return None;
     }
+    // An index, since the proof did not close with an area that shrinks: after the loop nothing is known of what it held.
     let mut end = 0;
     for piece in pieces {
         let next = end + piece.len();
