@@ -1,17 +1,14 @@
 -- What the steps of making a line come to: its questions, its encoding, its doubled 255s. Assumes nothing.
-use Rattle.std.proofs.Common.{◌≡◌, ℕ, ◌-◌, ◌*◌, ◌≤◌, Bool, true, false, cond, eqb, leb, List, [], ◌∷◌, ◌++◌, length, take, drop, Some, None, Ok, Err, Option, Result, sym, refl, ap, ◌∙◌, arith, lit≤}
+use Rattle.std.proofs.Common.{◌≡◌, ℕ, ◌*◌, ◌≤◌, Bool, true, false, cond, eqb, leb, List, [], ◌∷◌, ◌++◌, length, take, drop, Some, None, Ok, Err, Option, Result, sym, refl, ap, ◌∙◌, arith, lit≤}
 use Rattle.std.proofs.lemmas.List.{take_at, take-append-le, length-take}
-use Rattle.std.proofs.lemmas.Bool.{leb-true, le-leb}
+use Rattle.std.proofs.lemmas.Bool.{le-leb}
 use Rattle.std.specs.Option.{ok_or}
 use Rattle.text.specs.Area.{Filled, filled, laid, refused}
-use Rattle.text.specs.Utf8.{utf8}
 use Rattle.encoding.specs.Code.{Code}
-use Rattle.command.specs.Lines.{argument_refused, spaced, one_line, unless, encoded, escape, line_of, text_of, line_told}
-use Rattle.command.specs.Verbs.{word}
+use Rattle.command.specs.Lines.{argument_refused, unless, encoded, escape, line_of, text_of, line_told}
 use Rattle.command.specs.declared.refusal.Refusal.{Refusal}
-use Rattle.command.specs.declared.refusal.Refusal.TheVariants.{AreaTooShort, ArgumentTooLong, ArgumentNotUtf8, ArgumentNotOneLine}
+use Rattle.command.specs.declared.refusal.Refusal.TheVariants.{AreaTooShort}
 use Rattle.command.specs.declared.verb.Verb.{Verb}
-use Rattle.command.specs.declared.verb.Verb.TheVariants.{User, Pass, Cwd, Cdup, Dele, Rmd, Mkd, Rnfr, Rnto, «Type» as SetType, Noop, Quit}
 
 pub unless_ok : {A : Type 0} (why : Option Refusal) (r : Result A Refusal) (x : Unit {0}) → Ok x ≡ unless why (Ok tt) → unless why r ≡ r
 unless_ok None r x e = refl

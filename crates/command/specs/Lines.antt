@@ -41,10 +41,6 @@ unescape_on false (b ∷ bs) = b ∷ unescape_on (b == 255) bs
 abbrev pub unescape : List ℕ → List ℕ
 unescape bytes = unescape_on false bytes
 
--- how many bytes there are, if they fit
-abbrev pub length_within : ℕ → List ℕ → Option ℕ
-length_within room bytes = cond (nat_le (length bytes) room) (Some (length bytes)) None
-
 -- CR and LF
 abbrev pub breaks_line : ℕ → Bool
 breaks_line b = b == 13 || b == 10
@@ -122,6 +118,7 @@ abbrev pub verb_among : List Verb → List ℕ → Option Verb
 verb_among [] bytes = None
 verb_among (v ∷ vs) bytes = cond (bytes_eq bytes (word v)) (Some v) (verb_among vs bytes)
 
+-- all the verbs
 abbrev pub verbs : List Verb
 verbs = User ∷ Pass ∷ Cwd ∷ Cdup ∷ Dele ∷ Rmd ∷ Mkd ∷ Rnfr ∷ Rnto ∷ SetType ∷ Noop ∷ Quit ∷ []
 

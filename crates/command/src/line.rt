@@ -39,7 +39,7 @@ impl<'a> Command<'a> {
     }
 
     // What the argument is asked before the line is made.
-    fn validate(self) -> Result<(), Refusal>
+    fn validate_command_line(self) -> Result<(), Refusal>
         ensures { result ≡ unless (argument_refused (argument_of self.entry)) (Ok tt) }
     {
         match self.argument {
@@ -58,7 +58,7 @@ fn is_one_line(bytes: &[u8]) -> bool
 }
 
 // What the encoded line is asked, so that no encoding can end it early or leave it open.
-fn validate_encoded(line: &[u8]) -> Result<(), Refusal>
+fn validate_encoded_command_line(line: &[u8]) -> Result<(), Refusal>
     ensures { result ≡ unless (line_refused line.now) (Ok tt) }
 {
     match line {
@@ -74,10 +74,8 @@ fn encode_text<E: Encoding>(encoding: &E, text: &[u8], narrow: &mut [u8]) -> Res
     ensures line { escaped (line_told result narrow.new) ≡ encoded ((E.means encoding.now).encode text.now) }
     ensures within { line_length result ≤ LONGEST_ENCODED }
 {
-    let length = encoding
-        .encode(text, narrow)
-        .ok_or(Refusal::NoEncoding)?;
-    validate_encoded(&narrow[..length])?;
+    let length = encoding.encode(text, narrow).ok_or(Refusal::NoEncoding)?;
+    validate_encoded_command_line(&narrow[..length])?;
     Ok(length)
 }
 
@@ -93,7 +91,7 @@ fn make_line<E: Encoding>(
     ensures line { line_told result wide.new ≡ line_of (E.means encoding.now) command.entry.verb (argument_of command.entry) }
     ensures within { line_length result ≤ LONGEST_ESCAPED }
 {
-    command.validate()?;
+    command.validate_command_line()?;
     let length = command.format(wide).ok_or(Refusal::AreaTooShort)?;
     let encoded = encode_text(encoding, &wide[..length], &mut narrow[..LONGEST_ENCODED])?;
     write_front(Escaped(&narrow[..encoded]), wide).ok_or(Refusal::AreaTooShort)

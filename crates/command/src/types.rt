@@ -1,9 +1,10 @@
 // The representation types of the TYPE command.
-ghost use Rattle.std.specs.Prelude.{◌≡◌, ◌+◌, ◌≤◌, ◌++◌, length, Some};
+ghost use Rattle.std.specs.Prelude.{◌≡◌, ◌+◌, ◌≤◌, [], ◌∷◌, ◌++◌, length, Some};
 ghost use Rattle.arrayvec.specs.ArrayVec.{array_vec_len};
 ghost use Rattle.command.specs.Types.{format_letter, type_text};
 
 use arrayvec::ArrayVec;
+use std::fmt;
 
 // How a text is prepared for printing.
 #[derive(Clone, Copy, PartialEq, Eq, Debug)]
@@ -27,13 +28,13 @@ pub enum FileType {
 }
 
 impl FormatControl {
-    fn letter(self) -> u8
-        ensures { result ≡ format_letter self }
+    fn letter(self) -> &'static str
+        ensures { result.now ≡ format_letter self ∷ [] }
     {
         match self {
-            FormatControl::Default | FormatControl::NonPrint => b'N',
-            FormatControl::Telnet => b'T',
-            FormatControl::Asa => b'C',
+            FormatControl::Default | FormatControl::NonPrint => "N",
+            FormatControl::Telnet => "T",
+            FormatControl::Asa => "C",
         }
     }
 }
@@ -45,10 +46,23 @@ impl FileType {
         ensures short { array_vec_len result ≤ 5 }
     {
         match self {
-            FileType::Ascii(control) => joined(b"A ", &[control.letter()]),
-            FileType::Ebcdic(control) => joined(b"E ", &[control.letter()]),
+            FileType::Ascii(control) => joined(b"A ", control.letter().as_bytes()),
+            FileType::Ebcdic(control) => joined(b"E ", control.letter().as_bytes()),
             FileType::Image | FileType::Binary => joined(b"I", b""),
             FileType::Local(bits) => joined(b"L ", itoa::Buffer::new().format(bits).as_bytes()),
+        }
+    }
+}
+
+impl fmt::Display for FileType {
+    ghost output = { λ file_type. Some (type_text file_type) };
+
+    fn fmt<W: fmt::Write>(&self, f: &mut fmt::Formatter<W>) -> fmt::Result {
+        match *self {
+            FileType::Ascii(control) => write!(f, "A {}", control.letter()),
+            FileType::Ebcdic(control) => write!(f, "E {}", control.letter()),
+            FileType::Image | FileType::Binary => f.write_str("I"),
+            FileType::Local(bits) => write!(f, "L {bits}"),
         }
     }
 }

@@ -145,4 +145,12 @@ mod tests {
         assert!(rt; text.as_str() == "session, carrier");
         Ok(())
     }
+
+    #[test]
+    fn types_print_their_texts(rt: HostRuntime) -> Result<(), Fail> {
+        let ascii = FileType::Ascii(FormatControl::Telnet);
+        let text = format!(in rt.alloc(); "{ascii}, {}, {}", FileType::Image, FileType::Local(36))?;
+        assert!(rt; text.as_str() == "A T, I, L 36");
+        Ok(())
+    }
 }

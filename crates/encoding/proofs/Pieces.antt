@@ -1,5 +1,5 @@
 -- The text of some bytes, one piece after another. Assumes nothing.
-use Rattle.std.proofs.Common.{◌≡◌, ℕ, ◌-◌, ◌<◌, ◌≤◌, cond, List, [], ◌∷◌, ◌++◌, length, take, drop, Ok, Err, Result, is_ok, sym, ap, ◌∙◌, not-suc-le-zero}
+use Rattle.std.proofs.Common.{◌≡◌, ℕ, ◌-◌, ◌<◌, ◌≤◌, cond, List, [], ◌∷◌, ◌++◌, length, take, drop, Result, is_ok, sym, ap, ◌∙◌, not-suc-le-zero}
 use Rattle.std.proofs.lemmas.List.{take_rest}
 use Rattle.text.specs.declared.sequences.Broken.{Broken}
 use Rattle.text.specs.Front.{front, length_of}

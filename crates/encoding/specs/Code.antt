@@ -1,6 +1,7 @@
 -- What an encoding means: text to bytes, or nothing; and bytes to text. Text is its bytes in UTF-8. Assumes nothing.
 use Rattle.std.specs.Prelude.{◌≡◌, ℕ, List, Some, Option}
 
+-- an encoding: the bytes of a text, if it has any, and the text of some bytes
 pub record Code : Type 0 where
   pub encode : List ℕ → Option (List ℕ)
   pub decode : List ℕ → List ℕ

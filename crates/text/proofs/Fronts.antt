@@ -1,5 +1,5 @@
 -- What stands at the front of some bytes, by the table. Assumes nothing.
-use Rattle.std.proofs.Common.{◌≡◌, ℕ, zero, suc, ◌+◌, ◌<◌, ◌≤◌, Bool, true, false, cond, ◌&&◌, ◌||◌, eqb, leb, ◌⊎◌, List, [], ◌∷◌, length, get_or, take, drop, Option, Some, None, Result, Ok, Err, is_ok, sym, refl, ap, ◌∙◌, subst, inl, inr, suc-le-suc, zero-le, le_of_suc-le-suc, not-suc-le-zero, one-add, arith}
+use Rattle.std.proofs.Common.{◌≡◌, ℕ, zero, suc, ◌+◌, ◌<◌, ◌≤◌, Bool, true, false, cond, ◌&&◌, ◌||◌, eqb, leb, ◌⊎◌, List, [], ◌∷◌, length, get_or, take, drop, Some, None, Result, Ok, Err, is_ok, sym, refl, ap, ◌∙◌, subst, inl, inr, suc-le-suc, zero-le, le_of_suc-le-suc, not-suc-le-zero, one-add, arith}
 use Rattle.std.proofs.lemmas.Bool.{and_from, and_left, and_parts, or_from, false≢true, leb-true, eqb-true, eq-eqb, ne_eqb, lt-leb}
 use Rattle.text.specs.declared.sequences.Broken.{Broken}
 use Rattle.text.specs.Table.{Range, Row, table, within, fits, begins, some_row, is_sequence, begins_sequence}

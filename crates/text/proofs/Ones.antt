@@ -1,5 +1,5 @@
 -- The leading one bits of a first byte are the length of its row. Assumes nothing.
-use Rattle.std.proofs.Common.{◌≡◌, ℕ, ◌+◌, ◌-◌, ◌*◌, ◌^◌, ◌<◌, ◌≤◌, length, Some, sym, refl, ap, ◌∙◌, inl, inr, arith}
+use Rattle.std.proofs.Common.{◌≡◌, ℕ, ◌+◌, ◌-◌, ◌*◌, ◌^◌, ◌<◌, ◌≤◌, Some, sym, refl, ap, ◌∙◌, inl, inr, arith}
 use lib.Count.{count_leading_zeros, leading_unique}
 use Rattle.text.specs.Front.{row_of, announced}
 use Rattle.text.proofs.Rows.{Kind, none, one, two, three, four, kind}

@@ -1,12 +1,13 @@
 -- Writing to the front of a lent area. Assumes nothing.
 use Rattle.std.specs.Prelude.{◌≡◌, ℕ, cond, List, [], ◌∷◌, ◌++◌, length, drop, Some, None, Option, nat_le}
-use denote.Ref.{Bor}
+use Rattle.std.specs.Borrow.{Bor}
 
 -- what a writer answers, and what the area holds after
 pub record Filled : Type 0 where
   pub answer : Option ℕ
   pub area : List ℕ
 
+-- nothing is written, and the area is as it was
 abbrev pub refused : List ℕ → Filled
 refused area = record { answer = None; area = area }
 

@@ -8,6 +8,7 @@ abbrev pub leads : ℕ → Row → Bool
 leads b [] = false
 leads b (r ∷ row) = within r b
 
+-- the one of some rows that the byte begins; without ranges where it begins none
 abbrev pub find_row : ℕ → List Row → Row
 find_row b [] = []
 find_row b (row ∷ rows) = cond (leads b row) row (find_row b rows)

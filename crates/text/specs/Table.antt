@@ -6,6 +6,7 @@ pub record Range : Type 0 where
   pub least : ℕ
   pub most : ℕ
 
+-- the range of these two ends
 abbrev pub range : ℕ → ℕ → Range
 range least most = record { least = least; most = most }
 
@@ -17,6 +18,7 @@ later = range 0x80 0xBF
 abbrev pub Row : Type 0
 Row = List Range
 
+-- the nine rows, in the order of the Standard
 abbrev pub table : List Row
 table =
     (range 0x00 0x7F ∷ [])
@@ -30,6 +32,7 @@ table =
     ∷ (range 0xF4 0xF4 ∷ range 0x80 0x8F ∷ later ∷ later ∷ [])
     ∷ []
 
+-- whether a range has the byte
 abbrev pub within : Range → ℕ → Bool
 within r b = nat_le r.least b && nat_le b r.most
 
@@ -46,6 +49,7 @@ begins [] row = true
 begins (b ∷ bs) [] = false
 begins (b ∷ bs) (r ∷ row) = within r b && begins bs row
 
+-- whether a test passes at one of some rows
 abbrev pub some_row : (Row → Bool) → List Row → Bool
 some_row p [] = false
 some_row p (row ∷ rows) = p row || some_row p rows

@@ -9,6 +9,7 @@ use Rattle.text.specs.Table.{is_sequence}
 unfoldable pub utf8 : List ℕ → Bool
 utf8 bs = scalars (chars bs) && bytes_eq (encodes (chars bs)) bs
 
+-- whether each of some lists of bytes is a well-formed sequence
 abbrev pub all_sequences : List (List ℕ) → Bool
 all_sequences [] = true
 all_sequences (s ∷ ss) = is_sequence s && all_sequences ss

@@ -2,7 +2,7 @@
 ghost use Rattle.std.specs.Prelude.{◌≡◌, ℕ, List, Option, length, Some, nat_le};
 ghost use Rattle.std.specs.Iterator.{IsFinite, item_count};
 ghost use Rattle.text.specs.Area.{filled, Spells, joined};
-ghost use denote.Ref.{Bor};
+ghost use Rattle.std.specs.Borrow.{Bor};
 
 // Bytes that come in pieces: an iterator that says which bytes the pieces that are still to come have together.
 pub trait Pieces<'a>: Iterator<Item = &'a [u8]> + Copy {
@@ -67,6 +67,7 @@ pub fn write_front<'a, P: Pieces<'a>>(pieces: P, area: &mut [u8]) -> Option<usiz
     if !fit(pieces, area.len()) {
         return None;
     }
+    // An index, since the proof did not close with an area that shrinks: after the loop nothing is known of what it held.
     let mut end = 0;
     for piece in pieces {
         let next = end + piece.len();

@@ -1,19 +1,19 @@
-use Rattle.std.proofs.Common.{◌≤◌, ◌++◌, drop, length, ap, subst, sym, ◌∙◌, Err, arith, length-take}
+use Rattle.std.proofs.Common.{◌≤◌, drop, length, ap, subst, sym, ◌∙◌, Err, arith, length-take}
 use Rattle.std.proofs.lemmas.Result.{err_from_is_err_and}
 use Rattle.command.specs.Lines.{argument_of, line_told, line_length}
 use Rattle.command.proofs.Makes.{line_refused_early, line_from_text, told_is, told_short, line_written}
 use Rattle.command.proofs.line.make_line.Goals as goal
 
-pub returns-in_err-validate-clause-line : goal.returns-in_err-validate-clause-line
-returns-in_err-validate-clause-line g c =
+pub returns-in_err-validate_command_line-clause-line : goal.returns-in_err-validate_command_line-clause-line
+returns-in_err-validate_command_line-clause-line g c =
     let p = err_from_is_err_and c.from_residual.result c.from_residual.ensures.1 in
-    let e = line_refused_early (g.E.Encoding.means c.args.encoding.now) c.args.command.verb (argument_of c.args.command) _ c.in_err-validate.ensures in
+    let e = line_refused_early (g.E.Encoding.means c.args.encoding.now) c.args.command.verb (argument_of c.args.command) _ c.in_err-validate_command_line.ensures in
     rw p.1 (ap (λ z. Err z) p.2 ∙ e)
 
 pub returns-in_err-encoded-clause-line : goal.returns-in_err-encoded-clause-line
 returns-in_err-encoded-clause-line g c =
     let p = err_from_is_err_and c.from_residual-in_err-encoded.result c.from_residual-in_err-encoded.ensures.1 in
-    let e = line_from_text (g.E.Encoding.means c.args.encoding.now) c.args.command.verb (argument_of c.args.command) _ _ _ _ _ c.in_ok-validate.ensures c.format.ensures c.in_ok-length.ensures.ok_part in
+    let e = line_from_text (g.E.Encoding.means c.args.encoding.now) c.args.command.verb (argument_of c.args.command) _ _ _ _ _ c.in_ok-validate_command_line.ensures c.format.ensures c.in_ok-length.ensures.ok_part in
     rw p.1 (ap (λ z. Err z) p.2 ∙ c.in_err-encoded.ensures.line ∙ e)
 
 pub returns-clause-line : goal.returns-clause-line
@@ -23,7 +23,7 @@ returns-clause-line g c =
     let n = c.in_ok-encoded.encoded in
     let inside : n ≤ length narrow = omega (arith, c.in_ok-encoded.ensures.within, c.encode_text.auto.narrow, length-take 4352 c.args.narrow.now, c.requires.narrow) in
     let room : 8704 ≤ length c.format.new.area = omega (arith, c.requires.wide, c.format.auto.area) in
-    let e = line_from_text (g.E.Encoding.means c.args.encoding.now) c.args.command.verb (argument_of c.args.command) _ _ _ _ _ c.in_ok-validate.ensures c.format.ensures c.in_ok-length.ensures.ok_part in
+    let e = line_from_text (g.E.Encoding.means c.args.encoding.now) c.args.command.verb (argument_of c.args.command) _ _ _ _ _ c.in_ok-validate_command_line.ensures c.format.ensures c.in_ok-length.ensures.ok_part in
     ap (λ z. line_told z c.write_front.new.area) c.ok_or-2.ensures.value
     ∙ line_written narrow rest _ _ n _ c.in_ok-encoded.ensures.within inside room c.write_front.ensures
     ∙ c.in_ok-encoded.ensures.line ∙ e

@@ -1,4 +1,4 @@
-use Rattle.std.proofs.Common.{◌<◌, ◌≤◌, sym, ap, ◌∙◌, inl, inr, arith, Some}
+use Rattle.std.proofs.Common.{sym, ap, ◌∙◌, inl, inr, arith, Some}
 use Rattle.text.specs.Front.{announced}
 use Rattle.text.proofs.Rows.{row_none, row_one}
 use Rattle.text.proofs.Ones.{ones_announced}

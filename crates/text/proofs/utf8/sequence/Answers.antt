@@ -1,4 +1,4 @@
-use Rattle.std.proofs.Common.{◌≡◌, ◌<◌, ◌≤◌, Bool, length, get_or, rules, sym, ap, ◌∙◌, arith}
+use Rattle.std.proofs.Common.{◌≡◌, ◌<◌, ◌≤◌, length, get_or, rules, sym, ap, ◌∙◌, arith}
 use Rattle.text.specs.Table.{later, within}
 use Rattle.text.specs.Front.{row_of}
 use Rattle.text.proofs.Rows.{contains_is}

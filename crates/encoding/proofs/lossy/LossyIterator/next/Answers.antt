@@ -1,4 +1,4 @@
-use Rattle.std.proofs.Common.{◌<◌, ◌≤◌, length, rules}
+use Rattle.std.proofs.Common.{rules}
 use Rattle.encoding.proofs.Pieces.{lossy_none, lossy_by}
 use Rattle.encoding.proofs.lossy.LossyIterator.next.Goals as goal
 
