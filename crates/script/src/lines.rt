@@ -1,6 +1,7 @@
 // A whole script, line by line.
-ghost use Rattle.std.specs.Prelude.{length};
+ghost use Rattle.std.specs.Prelude.{◌≡◌, length};
 ghost use Rattle.std.specs.Iterator.{at_most};
+ghost use Rattle.std.specs.Str.Lines.{strip_carriage_return};
 ghost use Rattle.script.specs.Cuts.{GivesLine};
 
 use crate::call::{default_lengths, read_ask, read_lengths};
@@ -67,7 +68,9 @@ impl Call {
 }
 
 // A line may end in CR LF as well as in LF.
-fn without_cr(line: &[u8]) -> &[u8] {
+fn without_cr(line: &[u8]) -> &[u8]
+    ensures { result.now ≡ strip_carriage_return line.now }
+{
     line.strip_suffix(b"\r").unwrap_or(line)
 }
 
