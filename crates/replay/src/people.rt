@@ -6,7 +6,8 @@ use command::Fault;
 use link::{Buffers, Ending};
 use reply::{Rule, read_response};
 use script::{OwnedAsk, Script, Step};
-use tally::Answer;
+use session::Plain;
+use tally::{Answer, Ask};
 
 pub fn print(
     rt: &HostRuntime,
@@ -26,24 +27,18 @@ pub fn print(
 fn print_call(rt: &HostRuntime, ask: &OwnedAsk) -> anyhow::Result<()> {
     let name = call_name(ask);
     match ask {
-        OwnedAsk::Login(first, second) | OwnedAsk::Rename(first, second) => {
+        Ask::Login(first, second) | Ask::Rename(first, second) => {
             let first = Readable(first.as_slice());
             let second = Readable(second.as_slice());
             println!(rt; "{name} \"{first}\" \"{second}\"")?;
         }
-        OwnedAsk::Cwd(path) | OwnedAsk::Dele(path) | OwnedAsk::Rmd(path) | OwnedAsk::Mkd(path) => {
+        Ask::Plain(Plain::Cwd(path) | Plain::Dele(path) | Plain::Rmd(path) | Plain::Mkd(path)) => {
             let path = Readable(path.as_slice());
             println!(rt; "{name} \"{path}\"")?;
         }
-        OwnedAsk::Resume(offset) => println!(rt; "{name} at {offset}")?,
-        OwnedAsk::TransferType(file_type) => {
-            let text = file_type.text();
-            let written = Readable(text.as_slice());
-            println!(rt; "{name} {written}")?;
-        }
-        OwnedAsk::Greet | OwnedAsk::Cdup | OwnedAsk::Noop | OwnedAsk::Quit => println!(rt;
-            "{name}"
-        )?,
+        Ask::Resume(offset) => println!(rt; "{name} at {offset}")?,
+        Ask::TransferType(file_type) => println!(rt; "{name} {file_type}")?,
+        Ask::Greet | Ask::Plain(Plain::Cdup | Plain::Noop | Plain::Quit) => println!(rt; "{name}")?,
     }
     Ok(())
 }

@@ -6,7 +6,7 @@ use encoding::Utf8Encoding;
 use link::Buffers;
 use script::{OwnedAsk, Script, Step};
 use session::{Plain, Session};
-use tally::{Ask, Call, Lent, make};
+use tally::{Ask, Call, make};
 
 pub type Played<'a, 'b> = Session<Buffers<'a>, HostScript<'b>, Utf8Encoding>;
 
@@ -69,11 +69,7 @@ fn play_call(session: &mut Played<'_, '_>, held: &mut Held, step: &Step) -> anyh
     let taken = session.link().taken();
     let call = Call {
         ask: asked(&step.ask),
-        lent: Lent {
-            reply: step.lent.reply,
-            wide: step.lent.wide,
-            narrow: step.lent.narrow,
-        },
+        lent: step.lent,
     };
     let answer = make(session, call, &mut held.areas());
     Ok(Moment {
@@ -84,19 +80,26 @@ fn play_call(session: &mut Played<'_, '_>, held: &mut Held, step: &Step) -> anyh
     })
 }
 
+// With its texts lent.
 fn asked(ask: &OwnedAsk) -> Ask<&[u8]> {
     match ask {
-        OwnedAsk::Greet => Ask::Greet,
-        OwnedAsk::Login(user, password) => Ask::Login(user.as_slice(), password.as_slice()),
-        OwnedAsk::Cwd(path) => Ask::Plain(Plain::Cwd(path.as_slice())),
-        OwnedAsk::Cdup => Ask::Plain(Plain::Cdup),
-        OwnedAsk::Dele(path) => Ask::Plain(Plain::Dele(path.as_slice())),
-        OwnedAsk::Rmd(path) => Ask::Plain(Plain::Rmd(path.as_slice())),
-        OwnedAsk::Mkd(path) => Ask::Plain(Plain::Mkd(path.as_slice())),
-        OwnedAsk::Noop => Ask::Plain(Plain::Noop),
-        OwnedAsk::Quit => Ask::Plain(Plain::Quit),
-        OwnedAsk::Rename(from, to) => Ask::Rename(from.as_slice(), to.as_slice()),
-        OwnedAsk::TransferType(file_type) => Ask::TransferType(*file_type),
-        OwnedAsk::Resume(offset) => Ask::Resume(*offset),
+        Ask::Greet => Ask::Greet,
+        Ask::Login(user, password) => Ask::Login(user.as_slice(), password.as_slice()),
+        Ask::Plain(plain) => Ask::Plain(lent(plain)),
+        Ask::Rename(from, to) => Ask::Rename(from.as_slice(), to.as_slice()),
+        Ask::TransferType(file_type) => Ask::TransferType(*file_type),
+        Ask::Resume(offset) => Ask::Resume(*offset),
+    }
+}
+
+fn lent(plain: &Plain<Vec<u8>>) -> Plain<&[u8]> {
+    match plain {
+        Plain::Cwd(path) => Plain::Cwd(path.as_slice()),
+        Plain::Cdup => Plain::Cdup,
+        Plain::Dele(path) => Plain::Dele(path.as_slice()),
+        Plain::Rmd(path) => Plain::Rmd(path.as_slice()),
+        Plain::Mkd(path) => Plain::Mkd(path.as_slice()),
+        Plain::Noop => Plain::Noop,
+        Plain::Quit => Plain::Quit,
     }
 }

@@ -1,6 +1,7 @@
 // Bytes as text.
-use script::OwnedAsk;
+use session::Plain;
 use std::fmt;
+use tally::Ask;
 
 // The part of some bytes from a place on; nothing where the place is past the end.
 pub fn rest(bytes: &[u8], from: usize) -> &[u8] {
@@ -79,19 +80,19 @@ pub fn unended(line: &[u8]) -> &[u8] {
 }
 
 // The word by which a script makes the call.
-pub fn call_name(ask: &OwnedAsk) -> &'static str {
+pub fn call_name<T>(ask: &Ask<T>) -> &'static str {
     match ask {
-        OwnedAsk::Greet => "greet",
-        OwnedAsk::Login(_, _) => "login",
-        OwnedAsk::Cwd(_) => "cwd",
-        OwnedAsk::Cdup => "cdup",
-        OwnedAsk::Dele(_) => "dele",
-        OwnedAsk::Rmd(_) => "rmd",
-        OwnedAsk::Mkd(_) => "mkd",
-        OwnedAsk::Noop => "noop",
-        OwnedAsk::Quit => "quit",
-        OwnedAsk::Rename(_, _) => "rename",
-        OwnedAsk::TransferType(_) => "type",
-        OwnedAsk::Resume(_) => "resume",
+        Ask::Greet => "greet",
+        Ask::Login(_, _) => "login",
+        Ask::Plain(Plain::Cwd(_)) => "cwd",
+        Ask::Plain(Plain::Cdup) => "cdup",
+        Ask::Plain(Plain::Dele(_)) => "dele",
+        Ask::Plain(Plain::Rmd(_)) => "rmd",
+        Ask::Plain(Plain::Mkd(_)) => "mkd",
+        Ask::Plain(Plain::Noop) => "noop",
+        Ask::Plain(Plain::Quit) => "quit",
+        Ask::Rename(_, _) => "rename",
+        Ask::TransferType(_) => "type",
+        Ask::Resume(_) => "resume",
     }
 }

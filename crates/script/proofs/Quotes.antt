@@ -1,6 +1,6 @@
 -- The pieces of a quoted text, one after another. Assumes nothing.
-use Rattle.std.proofs.Common.{◌≡◌, ℕ, zero, suc, ◌+◌, ◌-◌, ◌<◌, ◌≤◌, eqb, List, [], ◌∷◌, ◌++◌, length, get_or, take, drop, Some, None, Option, Ok, Err, Result, sym, refl, ap, ◌∙◌, append_assoc, append-nil, add_assoc, arith, length-drop}
-use Rattle.std.proofs.lemmas.List.{take_rest, drop-drop}
+use Rattle.std.proofs.Common.{◌≡◌, ℕ, zero, suc, ◌+◌, ◌-◌, ◌<◌, ◌≤◌, eqb, List, [], ◌∷◌, ◌++◌, length, drop, Some, None, Option, Ok, Err, Result, sym, refl, ap, ◌∙◌, append_assoc, append-nil, add_assoc, arith, length-drop}
+use Rattle.std.proofs.lemmas.List.{drop-drop}
 use Rattle.std.proofs.lemmas.Bool.{cond_both}
 use Rattle.script.specs.declared.quote.Piece.{Piece}
 use Rattle.script.specs.declared.quote.Piece.TheVariants.{Byte, Close}
@@ -25,17 +25,11 @@ escaped-fits b (c ∷ cs) =
     (λ _. hex_fits b c cs)
     (λ _. written-fits (b ∷ (c ∷ cs)) 2 (letter_of c) (omega arith) (omega arith))
 
-pub piece_fits : (cs : List ℕ) → FitsIn cs (piece_of cs)
+piece_fits : (cs : List ℕ) → FitsIn cs (piece_of cs)
 piece_fits [] = tt
 piece_fits (c ∷ cs) =
     cond_both (eqb c 34) (Ok Close) _ (FitsIn (c ∷ cs)) (λ _. omega arith)
     (λ _. cond_both (eqb c 92) (escaped_of cs) (Ok (Byte c 1)) (FitsIn (c ∷ cs)) (λ _. escaped-fits c cs) (λ _. (omega arith, omega arith)))
-
--- Behind a backslash stands an escape.
-pub piece_at_escape : (cs : List ℕ) (p : Result Piece QuoteError) → 0 < length cs → get_or cs 0 0 ≡ 92
-    → p ≡ escaped_of (take (length cs - 1) (drop 1 cs)) → p ≡ piece_of cs
-piece_at_escape [] p h e q = absurd (omega arith)
-piece_at_escape (c ∷ cs) p h e q = rw (e, ← take_rest (c ∷ cs) 1) q
 
 -- Bytes that belong to a piece before are passed over.
 past-drop : (n : ℕ) (cs : List ℕ) → meaning_past n cs ≡ meaning_past 0 (drop n cs)
@@ -99,6 +93,7 @@ pub still_its_end : (text rest after : List ℕ) (n : ℕ) → after ≡ drop n 
 still_its_end text rest after n e h k r =
     rw (passed text rest after n e h k) (e ∙ ap (drop n) r ∙ drop-drop n (length text - length rest) text)
 
+-- The problem of a text that has no meaning says why.
 pub fails_by : (e : QuoteError) (m : Meaning) → m ≡ Err e → FailsBy (problem_of e) m
 fails_by Unclosed m h = h
 fails_by BadEscape m h = h

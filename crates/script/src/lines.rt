@@ -1,6 +1,7 @@
 // A whole script, line by line.
-ghost use Rattle.std.specs.Prelude.{length, IfSome};
+ghost use Rattle.std.specs.Prelude.{◌≡◌, length, IfSome};
 ghost use Rattle.std.specs.Iterator.{at_most};
+ghost use Rattle.std.specs.Str.Lines.{strip_carriage_return};
 ghost use Rattle.std.proofs.Props.{props};
 ghost use Rattle.script.specs.Calls.{Bounded};
 ghost use Rattle.script.specs.Cuts.{GivesLine};
@@ -72,7 +73,9 @@ impl Call {
 }
 
 // A line may end in CR LF as well as in LF.
-fn without_cr(line: &[u8]) -> &[u8] {
+fn without_cr(line: &[u8]) -> &[u8]
+    ensures { result.now ≡ strip_carriage_return line.now }
+{
     line.strip_suffix(b"\r").unwrap_or(line)
 }
 

@@ -6,7 +6,7 @@ ghost use Rattle.script.specs.Quotes.{meaning, bytes_of};
 
 use crate::address::read_address;
 use crate::choice::Named;
-use crate::cut::{trim_front, word_length};
+use crate::cut::{is_blank, trim_front, word_length};
 use crate::error::Problem;
 use crate::number::{NumeralError, read_number};
 use crate::quote::read_quoted;
@@ -132,9 +132,8 @@ impl<'a> Words<'a> {
 fn behind_blank(rest: &[u8]) -> Result<&[u8], Problem>
     ensures { IfOk result (λ t. t.now ≡ trimmed rest.now) }
 {
-    let trimmed = trim_front(rest);
-    if !rest.is_empty() && trimmed.len() == rest.len() {
-        return Err(Problem::NoBlankAfterQuote);
+    match rest {
+        [byte, ..] if !is_blank(*byte) => Err(Problem::NoBlankAfterQuote),
+        _ => Ok(trim_front(rest)),
     }
-    Ok(trimmed)
 }
