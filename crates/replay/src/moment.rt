@@ -1,5 +1,5 @@
 // The areas that calls are lent, and what is known of one call.
-use script::{Script, Step};
+use script::Script;
 use session::Areas;
 use std::alloc::{AllocError, Global};
 use tally::Answer;
@@ -12,19 +12,13 @@ pub struct Held {
     pub narrow: Vec<u8>,
 }
 
-// The most that any call is lent of an area.
-fn longest<F: Fn(&Step) -> usize>(script: &Script, lent: F) -> usize
-    requires { F.IsAlwaysCallable lent }
-{
-    script.calls.iter().map(lent).max().unwrap_or(0)
-}
-
 impl Held {
     // As long as the longest that a call is lent, and every byte the fill.
     pub fn new(heap: Global, script: &Script) -> Result<Held, AllocError> {
-        let reply = longest(script, |step| step.lent.reply);
-        let wide = longest(script, |step| step.lent.wide);
-        let narrow = longest(script, |step| step.lent.narrow);
+        let calls = &script.calls;
+        let reply = calls.iter().map(|step| step.lent.reply).max().unwrap_or(0);
+        let wide = calls.iter().map(|step| step.lent.wide).max().unwrap_or(0);
+        let narrow = calls.iter().map(|step| step.lent.narrow).max().unwrap_or(0);
         Ok(Held {
             reply: vec![in heap; script.fill; reply]?,
             wide: vec![in heap; script.fill; wide]?,

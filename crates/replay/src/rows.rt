@@ -82,6 +82,7 @@ fn handed_length(answer: Answer) -> usize {
 }
 
 // What the session remembers, and its carrier's state.
+#[derive(Clone, Copy)]
 struct Marks<'s, 'a, 'b>(&'s Played<'a, 'b>);
 
 impl fmt::Display for Marks<'_, '_, '_> {
