@@ -1,10 +1,9 @@
 // Encodings whose lines are refused, and yet what they encode is decoded to what it was.
-ghost use Rattle.std.specs.Prelude.{◌≡◌, ◌++◌, Some};
-ghost use Rattle.text.specs.Area.{filled};
 ghost use Rattle.session_tests.specs.Codes.{mute, prefixed, suffixed};
 ghost use Rattle.session_tests.specs.Backs.{mute_back, prefixed_back, suffixed_back};
 
 use encoding::Encoding;
+use text::{Parts, write_front};
 
 // Has no bytes for any text.
 #[derive(Clone, Copy)]
@@ -18,23 +17,6 @@ pub struct Prefixed(pub u8);
 #[derive(Clone, Copy)]
 pub struct Suffixed(pub u8);
 
-// Copies two parts, one behind the other, to the front of the area, if both fit.
-fn join(first: &[u8], second: &[u8], area: &mut [u8]) -> Option<usize>
-    ensures { record { answer = result; area = area.new } ≡ filled (Some (first.now ++ second.now)) area.old }
-{
-    let middle = first.len();
-    if area.len() < middle {
-        return None;
-    }
-    if area.len() - middle < second.len() {
-        return None;
-    }
-    let end = middle + second.len();
-    area[0..middle].copy_from_slice(first);
-    area[middle..end].copy_from_slice(second);
-    Some(end)
-}
-
 impl Encoding for Mute {
     ghost means = { λ _. mute };
 
@@ -45,7 +27,7 @@ impl Encoding for Mute {
     }
 
     fn decode(&self, bytes: &[u8], area: &mut [u8]) -> Option<usize> {
-        join(&[], bytes, area)
+        write_front(Parts(&[bytes]), area)
     }
 }
 
@@ -55,12 +37,12 @@ impl Encoding for Prefixed {
     ghost back = { λ s. prefixed_back s.0 };
 
     fn encode(&self, text: &[u8], area: &mut [u8]) -> Option<usize> {
-        join(&[self.0], text, area)
+        write_front(Parts(&[&[self.0], text]), area)
     }
 
     fn decode(&self, bytes: &[u8], area: &mut [u8]) -> Option<usize> {
         let start = bytes.len().min(1);
-        join(&[], &bytes[start..], area)
+        write_front(Parts(&[&bytes[start..]]), area)
     }
 }
 
@@ -70,11 +52,11 @@ impl Encoding for Suffixed {
     ghost back = { λ s. suffixed_back s.0 };
 
     fn encode(&self, text: &[u8], area: &mut [u8]) -> Option<usize> {
-        join(text, &[self.0], area)
+        write_front(Parts(&[text, &[self.0]]), area)
     }
 
     fn decode(&self, bytes: &[u8], area: &mut [u8]) -> Option<usize> {
         let end = bytes.len().saturating_sub(1);
-        join(&[], &bytes[0..end], area)
+        write_front(Parts(&[&bytes[..end]]), area)
     }
 }
