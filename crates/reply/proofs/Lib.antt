@@ -3,4 +3,3 @@ pub mod Grammars
 pub mod Locality
 pub mod CutLines
 pub mod Reading
-pub mod Expected

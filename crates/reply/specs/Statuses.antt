@@ -1,5 +1,6 @@
 -- Reply codes that mean something (RFC 959, section 4.2). Assumes nothing.
-use Rattle.std.specs.Prelude.{ℕ, Bool, true, false, cond, ◌&&◌, List, [], ◌∷◌, ◌==◌, nat_le}
+use Rattle.std.specs.Prelude.{ℕ, Bool, ◌&&◌, List, ◌==◌, nat_le}
+use Rattle.std.specs.List.{list_any}
 use Rattle.reply.specs.declared.status.Status.{Status}
 use Rattle.reply.specs.declared.status.Status.TheVariants.{CommandOk, Ready, Closing, LoggedIn, RequestedFileActionOk, PathCreated, NeedPassword, RequestFilePending}
 
@@ -16,8 +17,7 @@ status_code RequestFilePending = 350
 
 -- whether a code is one of those expected
 abbrev pub expects : List Status → ℕ → Bool
-expects [] c = false
-expects (s ∷ ss) c = cond (status_code s == c) true (expects ss c)
+expects expected c = list_any (λ s. status_code s == c) expected
 
 -- a positive preliminary reply, 100 to 199: another reply is to follow
 abbrev pub preliminary : ℕ → Bool

@@ -1,5 +1,5 @@
 -- What each call does, from its pieces. Assumes nothing.
-use Rattle.std.proofs.Common.{◌≡◌, ℕ, Bool, true, false, cond, eqb, List, [], ◌∷◌, ◌++◌, Some, None, Ok, Err, Result, sym, refl, ap, ◌∙◌, subst, inl, inr, arith}
+use Rattle.std.proofs.Common.{◌≡◌, ℕ, Bool, true, false, ◌||◌, cond, eqb, List, [], ◌∷◌, ◌++◌, Some, None, Ok, Err, Result, sym, refl, ap, ◌∙◌, subst, inl, inr, arith}
 use Rattle.std.specs.Borrow.{Bor}
 use Rattle.std.proofs.lemmas.Bool.{eqb-true}
 use Rattle.encoding.specs.Code.{Code}
@@ -120,7 +120,7 @@ does_login code user password m t area tied e =
 pending : (n : ℕ) → expects (RequestFilePending ∷ []) n ≡ true → preliminary n ≡ false
 pending n e = by (eqb 350 n) refl e
   where
-    by : (b : Bool) → eqb 350 n ≡ b → cond b true false ≡ true → preliminary n ≡ false
+    by : (b : Bool) → eqb 350 n ≡ b → (b || false) ≡ true → preliminary n ≡ false
     by true h g = ap preliminary (sym (eqb-true 350 n h))
     by false h g = absurd (never (sym g))
 
