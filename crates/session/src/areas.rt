@@ -3,7 +3,7 @@ ghost use Rattle.std.specs.Prelude.{◌≡◌};
 ghost use Rattle.session.specs.Areas.{desk_of, SameAreas};
 ghost use Rattle.session.specs.Outcome.{zeros};
 
-// One for replies, and two to work in. They may be of any length: a call refuses those that are too short.
+// One for replies, and two to work in. Short ones are refused by number, so no invariant here can ask for their lengths.
 #[derive(Drop)]
 pub struct Areas<'a> {
     pub reply: &'a mut [u8],

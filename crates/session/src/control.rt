@@ -13,7 +13,7 @@ use encoding::Encoding;
 use link::Link;
 use reply::{Reply, Rule, Status, is_expected, is_preliminary, read_response};
 
-// No reply read yet.
+// No reply read yet. Not `None`, since a call that read none answers code 0 and length 0.
 pub(crate) fn nothing_read() -> Reply
     ensures { result ≡ none_read }
 {

@@ -62,7 +62,7 @@ pub fn make<L: Link, C: Carrier, E: Encoding>(
     )
 }
 
-// Writes a row at its place, if there is one.
+// Writes a row at its place, if there is one. By hand, since `get_mut` does not say what the slice holds after the write.
 fn note(rows: &mut [Row], at: usize, row: Row)
     ensures { rows.new ≡ slice_set rows.old at row }
 {
