@@ -4,8 +4,8 @@ use crate::{people, rows};
 use carrier::Script as HostScript;
 use encoding::Utf8Encoding;
 use link::Buffers;
-use script::{OwnedAsk, Script, Step};
-use session::{Plain, Session};
+use script::{Script, Step};
+use session::Session;
 use tally::{Ask, Call, make};
 
 pub type Played<'a, 'b> = Session<Buffers<'a>, HostScript<'b>, Utf8Encoding>;
@@ -68,7 +68,7 @@ fn play_call(session: &mut Played<'_, '_>, held: &mut Held, step: &Step) -> anyh
     let sent = session.link().sent().len();
     let taken = session.link().taken();
     let call = Call {
-        ask: asked(&step.ask),
+        ask: Ask::from(&step.ask),
         lent: step.lent,
     };
     let answer = make(session, call, &mut held.areas());
@@ -78,28 +78,4 @@ fn play_call(session: &mut Played<'_, '_>, held: &mut Held, step: &Step) -> anyh
         taken,
         answer,
     })
-}
-
-// With its texts lent.
-fn asked(ask: &OwnedAsk) -> Ask<&[u8]> {
-    match ask {
-        Ask::Greet => Ask::Greet,
-        Ask::Login(user, password) => Ask::Login(user.as_slice(), password.as_slice()),
-        Ask::Plain(plain) => Ask::Plain(lent(plain)),
-        Ask::Rename(from, to) => Ask::Rename(from.as_slice(), to.as_slice()),
-        Ask::TransferType(file_type) => Ask::TransferType(*file_type),
-        Ask::Resume(offset) => Ask::Resume(*offset),
-    }
-}
-
-fn lent(plain: &Plain<Vec<u8>>) -> Plain<&[u8]> {
-    match plain {
-        Plain::Cwd(path) => Plain::Cwd(path.as_slice()),
-        Plain::Cdup => Plain::Cdup,
-        Plain::Dele(path) => Plain::Dele(path.as_slice()),
-        Plain::Rmd(path) => Plain::Rmd(path.as_slice()),
-        Plain::Mkd(path) => Plain::Mkd(path.as_slice()),
-        Plain::Noop => Plain::Noop,
-        Plain::Quit => Plain::Quit,
-    }
 }

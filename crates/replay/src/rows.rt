@@ -22,21 +22,10 @@ pub fn print(
     let stored = Hex(front(held.reply.as_slice(), handed_length(moment.answer)));
     let marks = Marks(session);
     let fill = script.fill;
-    let reply = Change {
-        before: front(moment.before.reply.as_slice(), step.lent.reply),
-        after: front(held.reply.as_slice(), step.lent.reply),
-        fill,
-    };
-    let wide = Change {
-        before: front(moment.before.wide.as_slice(), step.lent.wide),
-        after: front(held.wide.as_slice(), step.lent.wide),
-        fill,
-    };
-    let narrow = Change {
-        before: front(moment.before.narrow.as_slice(), step.lent.narrow),
-        after: front(held.narrow.as_slice(), step.lent.narrow),
-        fill,
-    };
+    let before = &moment.before;
+    let reply = change_of(&before.reply, &held.reply, step.lent.reply, fill);
+    let wide = change_of(&before.wide, &held.wide, step.lent.wide, fill);
+    let narrow = change_of(&before.narrow, &held.narrow, step.lent.narrow, fill);
     println!(rt;
         "call={call}\t{answer}\tsent={sent}\ttaken={taken}\tfront={stored}\t{marks}\treply={reply}\twide={wide}\tnarrow={narrow}"
     )?;
@@ -111,6 +100,14 @@ struct Change<'a> {
     before: &'a [u8],
     after: &'a [u8],
     fill: u8,
+}
+
+fn change_of<'a>(before: &'a Vec<u8>, after: &'a Vec<u8>, lent: usize, fill: u8) -> Change<'a> {
+    Change {
+        before: front(before.as_slice(), lent),
+        after: front(after.as_slice(), lent),
+        fill,
+    }
 }
 
 impl fmt::Display for Change<'_> {

@@ -79,7 +79,7 @@ pub fn unended(line: &[u8]) -> &[u8] {
     }
 }
 
-// The word by which a script makes the call.
+// The word by which a script makes the call. A table as the script's own, which reads the other way: neither gives the other.
 pub fn call_name<T>(ask: &Ask<T>) -> &'static str {
     match ask {
         Ask::Greet => "greet",

@@ -2,6 +2,7 @@
 ghost use Rattle.std.specs.Prelude.{◌≡◌};
 ghost use Rattle.command.specs.Lines.{argument_of as argument_in};
 ghost use Rattle.session.specs.Calls.{verb_of, argument_of, statuses_of};
+ghost use Rattle.session.specs.Plains.{plain_map};
 
 use command::{Command, Verb};
 use reply::Status;
@@ -48,6 +49,23 @@ impl<'a> Plain<&'a [u8]> {
             Plain::Mkd(_) => &[Status::PathCreated],
             Plain::Noop => &[Status::CommandOk],
             Plain::Quit => &[Status::Closing],
+        }
+    }
+}
+
+// The command with its path lent.
+impl<'a> From<&'a Plain<Vec<u8>>> for Plain<&'a [u8]> {
+    ghost from_gives = { λ plain r. plain_map (λ t. t.now) r ≡ plain_map (λ v. v.items) plain.now };
+
+    fn from(plain: &'a Plain<Vec<u8>>) -> Plain<&'a [u8]> {
+        match plain {
+            Plain::Cwd(path) => Plain::Cwd(path.as_slice()),
+            Plain::Cdup => Plain::Cdup,
+            Plain::Dele(path) => Plain::Dele(path.as_slice()),
+            Plain::Rmd(path) => Plain::Rmd(path.as_slice()),
+            Plain::Mkd(path) => Plain::Mkd(path.as_slice()),
+            Plain::Noop => Plain::Noop,
+            Plain::Quit => Plain::Quit,
         }
     }
 }

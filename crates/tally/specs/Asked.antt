@@ -3,7 +3,9 @@ use Rattle.std.specs.Prelude.{ℕ, List, Option, Result}
 use Rattle.std.specs.Borrow.{Bor}
 use Rattle.command.specs.declared.fault.Fault.{Fault}
 use Rattle.reply.specs.declared.reply.Reply.{Reply}
+use Rattle.session.specs.Plains.{plain_map}
 use Rattle.tally.specs.declared.calls.Ask.{Ask}
+use Rattle.tally.specs.declared.calls.Ask.TheVariants.{Greet, Login, Plain, Rename, TransferType, Resume}
 use Rattle.tally.specs.declared.calls.Call.{Call}
 
 abbrev pub Asked : Type 0
@@ -15,3 +17,12 @@ Made = Call (Bor (List ℕ))
 -- the reply, of a call that has one; or a fault
 abbrev pub Verdict : Type 0
 Verdict = Result (Option Reply) Fault
+
+-- what is asked, with other texts
+abbrev pub ask_map : {A B : Type 0} → (A → B) → Ask A → Ask B
+ask_map f Greet = Greet
+ask_map f (Login user password) = Login (f user) (f password)
+ask_map f (Plain p) = Plain (plain_map f p)
+ask_map f (Rename from to) = Rename (f from) (f to)
+ask_map f (TransferType t) = TransferType t
+ask_map f (Resume n) = Resume n
