@@ -2,12 +2,10 @@
 use Rattle.std.proofs.Common.{◌≡◌, ℕ, ◌*◌, ◌≤◌, Bool, true, false, cond, eqb, leb, List, [], ◌∷◌, ◌++◌, length, take, drop, Some, None, Ok, Err, Option, Result, sym, refl, ap, ◌∙◌, arith, lit≤}
 use Rattle.std.proofs.lemmas.List.{take_at, take-append-le, length-take}
 use Rattle.std.proofs.lemmas.Bool.{le-leb}
-use Rattle.std.specs.Option.{ok_or}
 use Rattle.text.specs.Area.{Filled, filled, laid, refused}
 use Rattle.encoding.specs.Code.{Code}
 use Rattle.command.specs.Lines.{argument_refused, unless, encoded, escape, line_of, text_of, line_told}
 use Rattle.command.specs.declared.refusal.Refusal.{Refusal}
-use Rattle.command.specs.declared.refusal.Refusal.TheVariants.{AreaTooShort}
 use Rattle.command.specs.declared.verb.Verb.{Verb}
 
 pub unless_ok : {A : Type 0} (why : Option Refusal) (r : Result A Refusal) (x : Unit {0}) → Ok x ≡ unless why (Ok tt) → unless why r ≡ r
@@ -71,13 +69,19 @@ module _ (narrow rest wide wide' : List ℕ) (n : ℕ) (r : Option ℕ) (short :
       (le-leb (length line) (length wide) (let z : length line ≤ length wide = omega (arith, escape-fits (narrow ++ rest) n short) in z))
 
   -- how long it is
-  pub told_is : ok_or r AreaTooShort ≡ Ok (length line)
-  told_is = ap (λ (f : Filled). ok_or f.answer AreaTooShort) filled_is
+  pub told_is : r ≡ Some (length line)
+  told_is = ap (λ (f : Filled). f.answer) filled_is
 
   pub told_short : length line ≤ 8704
   told_short = escape-fits (narrow ++ rest) n short
 
-  pub line_written : line_told (ok_or r AreaTooShort) wide' ≡ Ok (escape (take n narrow))
-  line_written =
-      ap (λ (f : Filled). line_told (ok_or f.answer AreaTooShort) f.area) filled_is
+  pub line_written : (k : ℕ) → r ≡ Some k → line_told (Ok k) wide' ≡ Ok (escape (take n narrow))
+  line_written k is =
+      let same : k ≡ length line = let e : Some k ≡ Some (length line) = sym is ∙ told_is in cc in
+      ap (λ z. line_told (Ok z) wide') same
+      ∙ ap (λ (f : Filled). line_told (Ok (length line)) f.area) filled_is
       ∙ ap (λ z. Ok z) (take_at line (drop (length line) wide) (length line) refl ∙ ap escape (take-append-le n narrow rest inside))
+
+-- a length that is told is short where the line is
+pub short_as : (r : Option ℕ) (k n : ℕ) → r ≡ Some k → r ≡ Some n → n ≤ 8704 → k ≤ 8704
+short_as r k n is told short = let same : k ≡ n = let e : Some k ≡ Some n = sym is ∙ told in cc in omega (arith, same, short)

@@ -92,9 +92,9 @@ fn make_line<E: Encoding>(
     ensures within { line_length result ≤ LONGEST_ESCAPED }
 {
     command.validate_command_line()?;
-    let length = command.format(wide).ok_or(Refusal::AreaTooShort)?;
+    let length = command.format(wide).unwrap();
     let encoded = encode_text(encoding, &wide[..length], &mut narrow[..LONGEST_ENCODED])?;
-    write_front(Escaped(&narrow[..encoded]), wide).ok_or(Refusal::AreaTooShort)
+    Ok(write_front(Escaped(&narrow[..encoded]), wide).unwrap())
 }
 
 // Makes the command's line as it goes over the wire, at the front of `wide`, and answers its length. The text is written
