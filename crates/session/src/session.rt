@@ -23,6 +23,7 @@ pub struct Record {
     pub completed: u16,
 }
 
+// Without a `Model`, which would hide the link and the carrier: `link`, `carrier` and `into_parts` promise them themselves.
 pub struct Session<L, C, E> {
     pub(crate) link: L,
     pub(crate) carrier: C,
