@@ -1,14 +1,7 @@
--- Areas that serve one piece of a call serve the next. Assumes nothing.
-use Rattle.std.proofs.Common.{◌≡◌, ℕ, refl, ◌∙◌, arith}
+-- Areas stay the same from one piece of a call to the next. Assumes nothing.
+use Rattle.std.proofs.Common.{refl, ◌∙◌}
 use Rattle.session.specs.declared.areas.Areas.{Areas}
-use Rattle.session.specs.Areas.{SameAreas, Serve}
-
-pub still_serve : (n k : ℕ) (a b : Areas) → k ≡ n → SameAreas a b → Serve n a → Serve k b
-still_serve n k a b is same serve = record {
-  reply = omega (arith, is, same.reply_length, serve.reply);
-  wide = omega (arith, same.wide_length, serve.wide);
-  narrow = omega (arith, same.narrow_length, serve.narrow);
-}
+use Rattle.session.specs.Areas.{SameAreas}
 
 -- areas are the same before anything is done, and after one thing and then another
 pub same_first : (a : Areas) → SameAreas a a

@@ -1,5 +1,5 @@
 // The calls.
-ghost use Rattle.std.specs.Prelude.{◌≡◌};
+ghost use Rattle.std.specs.Prelude.{◌≡◌, ◌≤◌, length};
 ghost use Rattle.session.specs.Model.{model};
 ghost use Rattle.session.specs.Areas.{desk_of, SameAreas, Serve};
 ghost use Rattle.session.specs.Calls.{greeting_of, logging_in, renaming, greet_of, login_of, plain_of, rename_of, type_of, resume_of};
@@ -16,7 +16,7 @@ use reply::{Reply, Status};
 
 impl<L: Link, C: Carrier, E: Encoding> Session<L, C, E> {
     fn read_greeting(&mut self, areas: &mut Areas<'_>) -> Result<Reply, Fault>
-        requires { Serve self.old.kept.settings.limit areas.old }
+        requires { self.old.kept.settings.limit ≤ length areas.old.reply.now }
         ensures came { record { answer = result; after = model L.Link.means C.Carrier.means E.Encoding.means self.new; reply = areas.new.reply.now } ≡ greeting_of (model L.Link.means C.Carrier.means E.Encoding.means self.old) areas.old.reply.now }
         ensures same { SameAreas areas.old areas.new }
     {

@@ -1,5 +1,5 @@
 // The pieces that calls are made of: the first questions, a line, a reply, and a line with its reply.
-ghost use Rattle.std.specs.Prelude.{◌≡◌, Some, MatchResult};
+ghost use Rattle.std.specs.Prelude.{◌≡◌, ◌≤◌, length, Some, MatchResult};
 ghost use Rattle.command.specs.Lines.{argument_of};
 ghost use Rattle.session.specs.Model.{model};
 ghost use Rattle.session.specs.Areas.{desk_of, SameAreas, Serve};
@@ -97,7 +97,8 @@ impl<L: Link, C: Carrier, E: Encoding> Session<L, C, E> {
         last: Reply,
         areas: &mut Areas<'_>,
     ) -> Result<(), Fault>
-        requires { Serve self.old.kept.settings.limit areas.old }
+        requires wide { 8704 ≤ length areas.old.wide.now }
+        requires narrow { 4352 ≤ length areas.old.narrow.now }
         ensures came { record { answer = result; after = model L.Link.means C.Carrier.means E.Encoding.means self.new; reply = areas.new.reply.now } ≡ perform_of command.entry.verb (argument_of command.entry) last (model L.Link.means C.Carrier.means E.Encoding.means self.old) areas.old.reply.now }
         ensures kept { self.new.kept ≡ self.old.kept }
         ensures same { SameAreas areas.old areas.new }
@@ -111,7 +112,7 @@ impl<L: Link, C: Carrier, E: Encoding> Session<L, C, E> {
 
     // Reads one reply. One that is not finished leaves the session out of step.
     pub(crate) fn hear(&mut self, verb: Option<Verb>, areas: &mut Areas<'_>) -> Result<Reply, Fault>
-        requires { Serve self.old.kept.settings.limit areas.old }
+        requires { self.old.kept.settings.limit ≤ length areas.old.reply.now }
         ensures came { record { answer = result; after = model L.Link.means C.Carrier.means E.Encoding.means self.new; reply = areas.new.reply.now } ≡ hear_of verb (model L.Link.means C.Carrier.means E.Encoding.means self.old) areas.old.reply.now }
         ensures same { SameAreas areas.old areas.new }
         ensures settings { self.new.kept.settings ≡ self.old.kept.settings }

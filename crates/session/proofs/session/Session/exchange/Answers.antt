@@ -1,7 +1,6 @@
-use Rattle.std.proofs.Common.{ap}
+use Rattle.std.proofs.Common.{ap, arith}
 use Rattle.std.proofs.lemmas.Result.{err_from_is_err_and}
 use Rattle.session.specs.Model.{model}
-use Rattle.session.proofs.Lending.{still_serve}
 use Rattle.session.proofs.Exchanges.{unsent, unfinished, settled}
 use Rattle.session.proofs.session.Session.exchange.Goals as goal
 
@@ -12,7 +11,9 @@ returns-in_err-perform-clause-came g c =
     unsent _ _ c.args.expected.now c.args.last m c.args.areas.now.reply.now _ _ _ _ _ p.1 p.2 c.in_err-perform.ensures.came
 
 pub hear-requires : goal.hear-requires
-hear-requires g c = still_serve _ _ _ _ (ap (λ k. k.settings.limit) c.perform.ensures.kept) c.perform.ensures.same c.requires
+hear-requires g c =
+    let kept = ap (λ k. k.settings.limit) c.perform.ensures.kept in
+    omega (arith, kept, c.perform.ensures.same.reply_length, c.requires.reply)
 
 pub returns-in_err-answer-clause-came : goal.returns-in_err-answer-clause-came
 returns-in_err-answer-clause-came g c =
