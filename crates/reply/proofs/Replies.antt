@@ -1,16 +1,26 @@
 -- A reply is local: what finishes it is in its own bytes, and what follows them is left. Assumes nothing.
-use Rattle.std.proofs.Common.{◌≡◌, ℕ, suc, ◌+◌, ◌<◌, ◌≤◌, Bool, true, false, cond, eqb, leb, List, [], ◌∷◌, ◌++◌, length, Ok, Err, sym, refl, ap, ◌∙◌, arith}
+use Rattle.std.proofs.Common.{◌≡◌, ℕ, suc, ◌+◌, ◌<◌, ◌≤◌, Bool, true, false, cond, eqb, leb, List, [], ◌∷◌, ◌++◌, length, take, Ok, Err, Result, sym, refl, ap, ◌∙◌, arith}
 use Rattle.std.proofs.lemmas.Bool.{leb-false, leb-true}
+use Rattle.std.proofs.lemmas.List.{take-append-le, take_at}
 use Rattle.link.specs.declared.wire.Ending.{Ending}
+use Rattle.link.specs.declared.wire.Ending.TheVariants.{Closed, Broken}
 use Rattle.command.specs.declared.refusal.Refusal.TheVariants.{ReplyTooLong, ReplyIllBegun}
 use Rattle.reply.specs.declared.reply.Reply.{Reply}
 use Rattle.reply.specs.declared.reply.Rule.{Rule}
 use Rattle.reply.specs.declared.lines.Last.{Last}
 use Rattle.reply.specs.Lines.{Place, at_first, at_later, Judged, ill_begins, it_ends, it_goes_on, judge}
-use Rattle.reply.specs.Replies.{Unread, unread, Cut, cut, lost, by_line, reply_on, reply, count}
+use Rattle.reply.specs.Replies.{Unread, unread, Cut, cut, lost, by_line, reply_on, reply, count, refused}
 
 pub not_ok : (u : Unread) (c : Reply) → Err u ≡ Ok c → ⊥
-not_ok u c h = cc
+not_ok u c h = let z : ◌≡◌ {A = ℕ} 0 1 = cc in omega arith
+
+not_ill : (ending : Ending) (m n : ℕ) → ◌≡◌ {A = Result Reply Unread} (Err (unread (lost ending) m)) (Err (unread ReplyIllBegun n)) → ⊥
+not_ill Closed m n h = let z : ◌≡◌ {A = ℕ} 13 16 = ap refused h in omega arith
+not_ill Broken m n h = let z : ◌≡◌ {A = ℕ} 14 16 = ap refused h in omega arith
+
+not_too_long : (ending : Ending) (m n : ℕ) → ◌≡◌ {A = Result Reply Unread} (Err (unread (lost ending) m)) (Err (unread ReplyTooLong n)) → ⊥
+not_too_long Closed m n h = let z : ◌≡◌ {A = ℕ} 13 15 = ap refused h in omega arith
+not_too_long Broken m n h = let z : ◌≡◌ {A = ℕ} 14 15 = ap refused h in omega arith
 
 -- more bytes behind
 abbrev pub more : List ℕ → Cut → Cut
@@ -114,23 +124,46 @@ module _ (limit : ℕ) (ending : Ending) where
   unfolding reply
   reply_took rule bs = let a = alone 0 (at_first rule) [] bs in record { took = a.took; whole = a.whole; same = a.same; way = a.way }
 
-  way_within : (took : List ℕ) (p : Cut) → Way 0 took p → count p.got ≤ limit
-  way_within took p (finished c e long some within) = let i = ap count e in omega arith
-  way_within took p (ill e some within) = let i = ap count e in omega arith
-  way_within took p (ended e none within) = let i = ap count e in let j = within (omega arith) in omega arith
-  way_within took p (too_long k e long is) = let i = ap count e in let j = is (omega arith) in omega arith
+  way_within : (took : List ℕ) (p : Cut) → Way 0 took p → (count p.got ≤ limit) × (count p.got ≤ length took)
+  way_within took p (finished c e long some within) = let i = ap count e in (omega arith, omega arith)
+  way_within took p (ill e some within) = let i = ap count e in (omega arith, omega arith)
+  way_within took p (ended e none within) = let i = ap count e in let j = within (omega arith) in (omega arith, omega arith)
+  way_within took p (too_long k e long is) = let i = ap count e in let j = is (omega arith) in (omega arith, omega arith)
 
-  way_finished : (took : List ℕ) (p : Cut) → Way 0 took p → (c : Reply) → p.got ≡ Ok c → (0 < c.length) × (c.length ≤ limit)
-  way_finished took p (finished d e long some within) c is = let i : c.length ≡ d.length = ap count (sym is ∙ e) in (omega arith, omega arith)
+  way_finished : (took : List ℕ) (p : Cut) → Way 0 took p → (c : Reply) → p.got ≡ Ok c → (0 < c.length) × (c.length ≤ limit) × (length took ≡ c.length)
+  way_finished took p (finished d e long some within) c is = let i : c.length ≡ d.length = ap count (sym is ∙ e) in (omega arith, omega arith, omega arith)
   way_finished took p (ill e some within) c is = absurd (not_ok _ c (sym e ∙ is))
   way_finished took p (ended e none within) c is = absurd (not_ok _ c (sym e ∙ is))
   way_finished took p (too_long k e long h) c is = absurd (not_ok _ c (sym e ∙ is))
 
+  way_ended : (took : List ℕ) (p : Cut) → Way 0 took p → (n : ℕ) → p.got ≡ Err (unread (lost ending) n) → p.rest ≡ []
+  way_ended took p (finished c e long some within) n is = absurd (not_ok _ c (sym is ∙ e))
+  way_ended took p (ill e some within) n is = absurd (not_ill ending _ _ (sym is ∙ e))
+  way_ended took p (ended e none within) n is = none
+  way_ended took p (too_long k e long h) n is = absurd (not_too_long ending _ _ (sym is ∙ e))
+
   module _ (rule : Rule) (bs : List ℕ) where
     -- no more is stored than the limit
     pub reply_within : count (reply rule limit ending bs).got ≤ limit
-    reply_within = let t = reply_took rule bs in way_within t.took _ t.way
+    reply_within = let t = reply_took rule bs in (way_within t.took _ t.way).0
 
-    -- a finished reply has a byte at least and no more than the limit
+    -- what is stored is the front of the bytes taken
+    pub reply_stored : take (count (reply rule limit ending bs).got) bs ≡ take (count (reply rule limit ending bs).got) (reply_took rule bs).took
+    reply_stored =
+        let t = reply_took rule bs in
+        ap (take (count (reply rule limit ending bs).got)) t.whole ∙ take-append-le (count (reply rule limit ending bs).got) t.took (reply rule limit ending bs).rest (way_within t.took _ t.way).1
+
+    -- a finished reply has a byte at least and no more than the limit, and its bytes are those taken
     pub reply_long : (c : Reply) → (reply rule limit ending bs).got ≡ Ok c → (0 < c.length) × (c.length ≤ limit)
-    reply_long c e = let t = reply_took rule bs in way_finished t.took _ t.way c e
+    reply_long c e = let t = reply_took rule bs in let h = way_finished t.took _ t.way c e in (h.0, h.1)
+
+    pub reply_bytes : (c : Reply) → (reply rule limit ending bs).got ≡ Ok c → bs ≡ take c.length bs ++ (reply rule limit ending bs).rest
+    reply_bytes c e =
+        let t = reply_took rule bs in
+        let h = way_finished t.took _ t.way c e in
+        let front : take c.length bs ≡ t.took = ap (take c.length) t.whole ∙ take_at t.took (reply rule limit ending bs).rest c.length h.2 in
+        t.whole ∙ ap (λ z. z ++ (reply rule limit ending bs).rest) (sym front)
+
+    -- where the link's end cut it short, nothing is left
+    pub reply_ended : (n : ℕ) → (reply rule limit ending bs).got ≡ Err (unread (lost ending) n) → (reply rule limit ending bs).rest ≡ []
+    reply_ended n e = let t = reply_took rule bs in way_ended t.took _ t.way n e
