@@ -1,5 +1,5 @@
 // The calls of a script, one after another.
-use crate::moment::{Held, Moment};
+use crate::moment::{Held, Moment, filled, lend};
 use crate::{people, rows};
 use carrier::Script as HostScript;
 use encoding::Utf8Encoding;
@@ -22,7 +22,7 @@ pub enum Account {
 pub fn play(rt: &HostRuntime, script: &Script, account: Account) -> anyhow::Result<()> {
     let heap = rt.alloc();
     let mut out = vec![in heap; 0u8; script.room]?;
-    let mut held = Held::new(heap, script)?;
+    let mut held = filled(heap, script)?;
     play_over(rt, script, out.as_mut_slice(), &mut held, account)
 }
 
@@ -71,7 +71,7 @@ fn play_call(session: &mut Played<'_, '_>, held: &mut Held, step: &Step) -> anyh
         ask: Ask::from(&step.ask),
         lent: step.lent,
     };
-    let answer = make(session, call, &mut held.areas());
+    let answer = make(session, call, &mut lend(held));
     Ok(Moment {
         before,
         sent,

@@ -15,7 +15,7 @@ use link::Link;
 use reply::{Reply, Status};
 
 impl<L: Link, C: Carrier, E: Encoding> Session<L, C, E> {
-    fn read_greeting(&mut self, areas: &mut Areas<'_>) -> Result<Reply, Fault>
+    fn read_greeting(&mut self, areas: &mut Areas<&mut [u8]>) -> Result<Reply, Fault>
         requires { self.old.kept.settings.limit ≤ length areas.old.reply.now }
         ensures came { record { answer = result; after = model L.Link.means C.Carrier.means E.Encoding.means self.new; reply = areas.new.reply.now } ≡ greeting_of (model L.Link.means C.Carrier.means E.Encoding.means self.old) areas.old.reply.now }
         ensures same { SameAreas areas.old areas.new }
@@ -27,7 +27,7 @@ impl<L: Link, C: Carrier, E: Encoding> Session<L, C, E> {
     }
 
     // Reads the server's greeting. Another status than 220 is refused, and greet may then be made again.
-    pub fn greet(&mut self, areas: &mut Areas<'_>) -> Result<Reply, Fault>
+    pub fn greet(&mut self, areas: &mut Areas<&mut [u8]>) -> Result<Reply, Fault>
         ensures came { record { answer = result; after = model L.Link.means C.Carrier.means E.Encoding.means self.new; desk = desk_of areas.new } ≡ greet_of (model L.Link.means C.Carrier.means E.Encoding.means self.old) (desk_of areas.old) }
         ensures same { SameAreas areas.old areas.new }
     {
@@ -42,7 +42,7 @@ impl<L: Link, C: Carrier, E: Encoding> Session<L, C, E> {
         &mut self,
         user: &[u8],
         password: &[u8],
-        areas: &mut Areas<'_>,
+        areas: &mut Areas<&mut [u8]>,
     ) -> Result<Reply, Fault>
         requires { Serve self.old.kept.settings.limit areas.old }
         ensures came { record { answer = result; after = model L.Link.means C.Carrier.means E.Encoding.means self.new; reply = areas.new.reply.now } ≡ logging_in user.now password.now (model L.Link.means C.Carrier.means E.Encoding.means self.old) areas.old.reply.now }
@@ -67,7 +67,7 @@ impl<L: Link, C: Carrier, E: Encoding> Session<L, C, E> {
         &mut self,
         user: &[u8],
         password: &[u8],
-        areas: &mut Areas<'_>,
+        areas: &mut Areas<&mut [u8]>,
     ) -> Result<Reply, Fault>
         ensures came { record { answer = result; after = model L.Link.means C.Carrier.means E.Encoding.means self.new; desk = desk_of areas.new } ≡ login_of user.now password.now (model L.Link.means C.Carrier.means E.Encoding.means self.old) (desk_of areas.old) }
         ensures same { SameAreas areas.old areas.new }
@@ -79,7 +79,11 @@ impl<L: Link, C: Carrier, E: Encoding> Session<L, C, E> {
     }
 
     // A command of one line and one reply.
-    pub fn plain(&mut self, plain: Plain<&[u8]>, areas: &mut Areas<'_>) -> Result<Reply, Fault>
+    pub fn plain(
+        &mut self,
+        plain: Plain<&[u8]>,
+        areas: &mut Areas<&mut [u8]>,
+    ) -> Result<Reply, Fault>
         ensures came { record { answer = result; after = model L.Link.means C.Carrier.means E.Encoding.means self.new; desk = desk_of areas.new } ≡ plain_of plain.entry (model L.Link.means C.Carrier.means E.Encoding.means self.old) (desk_of areas.old) }
         ensures same { SameAreas areas.old areas.new }
     {
@@ -90,7 +94,12 @@ impl<L: Link, C: Carrier, E: Encoding> Session<L, C, E> {
     }
 
     // RNFR, and once the server has the file, RNTO.
-    fn move_file(&mut self, from: &[u8], to: &[u8], areas: &mut Areas<'_>) -> Result<Reply, Fault>
+    fn move_file(
+        &mut self,
+        from: &[u8],
+        to: &[u8],
+        areas: &mut Areas<&mut [u8]>,
+    ) -> Result<Reply, Fault>
         requires { Serve self.old.kept.settings.limit areas.old }
         ensures came { record { answer = result; after = model L.Link.means C.Carrier.means E.Encoding.means self.new; reply = areas.new.reply.now } ≡ renaming from.now to.now (model L.Link.means C.Carrier.means E.Encoding.means self.old) areas.old.reply.now }
         ensures same { SameAreas areas.old areas.new }
@@ -106,7 +115,12 @@ impl<L: Link, C: Carrier, E: Encoding> Session<L, C, E> {
         )
     }
 
-    pub fn rename(&mut self, from: &[u8], to: &[u8], areas: &mut Areas<'_>) -> Result<Reply, Fault>
+    pub fn rename(
+        &mut self,
+        from: &[u8],
+        to: &[u8],
+        areas: &mut Areas<&mut [u8]>,
+    ) -> Result<Reply, Fault>
         ensures came { record { answer = result; after = model L.Link.means C.Carrier.means E.Encoding.means self.new; desk = desk_of areas.new } ≡ rename_of from.now to.now (model L.Link.means C.Carrier.means E.Encoding.means self.old) (desk_of areas.old) }
         ensures same { SameAreas areas.old areas.new }
     {
@@ -120,7 +134,7 @@ impl<L: Link, C: Carrier, E: Encoding> Session<L, C, E> {
     pub fn transfer_type(
         &mut self,
         file_type: FileType,
-        areas: &mut Areas<'_>,
+        areas: &mut Areas<&mut [u8]>,
     ) -> Result<Reply, Fault>
         ensures came { record { answer = result; after = model L.Link.means C.Carrier.means E.Encoding.means self.new; desk = desk_of areas.new } ≡ type_of file_type (model L.Link.means C.Carrier.means E.Encoding.means self.old) (desk_of areas.old) }
         ensures same { SameAreas areas.old areas.new }

@@ -69,7 +69,7 @@ pub(crate) fn with_argument(verb: Verb, argument: &[u8]) -> Command<'_>
 impl<L: Link, C: Carrier, E: Encoding> Session<L, C, E> {
     // The questions that come before anything is sent or read. `greeted` is what the call wants: greet is made before
     // the greeting, every other call after it.
-    pub(crate) fn questions(&self, greeted: bool, areas: &Areas<'_>) -> Result<(), Fault>
+    pub(crate) fn questions(&self, greeted: bool, areas: &Areas<&mut [u8]>) -> Result<(), Fault>
         ensures { result ≡ questions_of greeted (model L.Link.means C.Carrier.means E.Encoding.means self.now) (desk_of areas.now) }
     {
         if areas.reply.len() < self.kept.settings.limit
@@ -95,7 +95,7 @@ impl<L: Link, C: Carrier, E: Encoding> Session<L, C, E> {
         &mut self,
         command: Command<'_>,
         last: Reply,
-        areas: &mut Areas<'_>,
+        areas: &mut Areas<&mut [u8]>,
     ) -> Result<(), Fault>
         requires wide { 8704 ≤ length areas.old.wide.now }
         requires narrow { 4352 ≤ length areas.old.narrow.now }
@@ -111,7 +111,11 @@ impl<L: Link, C: Carrier, E: Encoding> Session<L, C, E> {
     }
 
     // Reads one reply. One that is not finished leaves the session out of step.
-    pub(crate) fn hear(&mut self, verb: Option<Verb>, areas: &mut Areas<'_>) -> Result<Reply, Fault>
+    pub(crate) fn hear(
+        &mut self,
+        verb: Option<Verb>,
+        areas: &mut Areas<&mut [u8]>,
+    ) -> Result<Reply, Fault>
         requires { self.old.kept.settings.limit ≤ length areas.old.reply.now }
         ensures came { record { answer = result; after = model L.Link.means C.Carrier.means E.Encoding.means self.new; reply = areas.new.reply.now } ≡ hear_of verb (model L.Link.means C.Carrier.means E.Encoding.means self.old) areas.old.reply.now }
         ensures same { SameAreas areas.old areas.new }
@@ -146,7 +150,7 @@ impl<L: Link, C: Carrier, E: Encoding> Session<L, C, E> {
         command: Command<'_>,
         expected: &[Status],
         last: Reply,
-        areas: &mut Areas<'_>,
+        areas: &mut Areas<&mut [u8]>,
     ) -> Result<Reply, Fault>
         requires { Serve self.old.kept.settings.limit areas.old }
         ensures came { record { answer = result; after = model L.Link.means C.Carrier.means E.Encoding.means self.new; reply = areas.new.reply.now } ≡ exchange_of command.entry.verb (argument_of command.entry) expected.now last (model L.Link.means C.Carrier.means E.Encoding.means self.old) areas.old.reply.now }

@@ -20,7 +20,8 @@ use Rattle.tally.proofs.Tallies.{never, with_more, goes_on}
 use Rattle.tally.proofs.Logic.{Spoken, Tied}
 use Rattle.tally.proofs.Ended.{Moved}
 use Rattle.tally.proofs.Moves.{moves}
-use Rattle.tally.specs.Asked.{Made, Verdict}
+use Rattle.tally.specs.Asked.{Verdict}
+use Rattle.tally.specs.declared.calls.Call.{Call}
 
 -- what is gathered of a list with one more behind it
 gathered_push : {A : Type 0} (f : Seen → List A) (ss : List Seen) (s : Seen) → flat_map f (ss ++ (s ∷ [])) ≡ flat_map f ss ++ f s
@@ -67,12 +68,12 @@ spoken_texts c back (s ∷ saids) (l ∷ lines) h = ap (λ z. z ∷ texts c line
 
 module _ (s : Start) (back : Back s.code) where
   -- one call with its areas
-  made : (k : Made) (m : Model) (d : Desk) (t : Tally) → Tied s.code m t → Moved s.code k.ask m t (made_of k m d)
+  made : (k : Call) (m : Model) (d : Desk) (t : Tally) → Tied s.code m t → Moved s.code k.ask m t (made_of k m d)
   unfolding made_of
   made k m d t tied = moves s.code k.ask m t _ tied
 
   -- what is observed of it is what it sent
-  module _ (k : Made) (m : Model) (d : Desk) (t : Tally) (moved : Moved s.code k.ask m t (made_of k m d)) where
+  module _ (k : Call) (m : Model) (d : Desk) (t : Tally) (moved : Moved s.code k.ask m t (made_of k m d)) where
     lines_seen : lines_in (seen_of k m d) ≡ moved.lines
     lines_seen = ap (lines_on []) (grown_is m.wire (made_of k m d).after.wire (concat moved.lines) moved.out) ∙ lines_back moved.lines (spoken_whole s.code moved.saids moved.lines moved.spoken)
 
@@ -131,7 +132,7 @@ module _ (s : Start) (back : Back s.code) where
   abbrev After : List Seen → Seen → Type 0
   After ss x = Replies s x (tally_of s ss) (tally_of s (ss ++ (x ∷ []))) × Stands s x.after (ss ++ (x ∷ [])) (tally_of s (ss ++ (x ∷ [])))
 
-  after_one : (k : Made) (m : Model) (d : Desk) (ss : List Seen) (t : Tally) → Along s m ss t → After ss (seen_of k m d)
+  after_one : (k : Call) (m : Model) (d : Desk) (ss : List Seen) (t : Tally) → Along s m ss t → After ss (seen_of k m d)
   after_one k m d ss t h =
       let x : Seen = seen_of k m d in
       let moved = made k m d t h.tied in
@@ -148,7 +149,7 @@ module _ (s : Start) (back : Back s.code) where
       )
 
   -- any part of a list of calls, and any call after it
-  after_each : (calls : List Made) (m : Model) (d : Desk) (ss : List Seen) (t : Tally) → Along s m ss t → (before : List Seen) (x : Seen) (rest : List Seen) → seen_all m d calls ≡ before ++ (x ∷ rest) → After (ss ++ before) x
+  after_each : (calls : List Call) (m : Model) (d : Desk) (ss : List Seen) (t : Tally) → Along s m ss t → (before : List Seen) (x : Seen) (rest : List Seen) → seen_all m d calls ≡ before ++ (x ∷ rest) → After (ss ++ before) x
   after_each [] m d ss t h [] x rest e = let z : ◌≡◌ {A = ℕ} 0 1 = cc in absurd (omega arith)
   after_each [] m d ss t h (b ∷ before) x rest e = let z : ◌≡◌ {A = ℕ} 0 1 = cc in absurd (omega arith)
   after_each (k ∷ calls) m d ss t h [] x rest e =

@@ -3,16 +3,18 @@ use Rattle.std.specs.Prelude.{ℕ, List, Option, Result}
 use Rattle.std.specs.Borrow.{Bor}
 use Rattle.command.specs.declared.fault.Fault.{Fault}
 use Rattle.reply.specs.declared.reply.Reply.{Reply}
+use Rattle.session.specs.declared.areas.Areas.{Areas}
 use Rattle.session.specs.Plains.{plain_map}
 use Rattle.tally.specs.declared.calls.Ask.{Ask}
 use Rattle.tally.specs.declared.calls.Ask.TheVariants.{Greet, Login, Plain, Rename, TransferType, Resume}
-use Rattle.tally.specs.declared.calls.Call.{Call}
 
+-- what is asked, with its texts lent
 abbrev pub Asked : Type 0
 Asked = Ask (Bor (List ℕ))
 
-abbrev pub Made : Type 0
-Made = Call (Bor (List ℕ))
+-- how many bytes of each area are lent
+abbrev pub Lengths : Type 0
+Lengths = Areas ℕ
 
 -- the reply, of a call that has one; or a fault
 abbrev pub Verdict : Type 0

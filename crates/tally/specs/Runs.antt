@@ -10,11 +10,11 @@ use Rattle.session.specs.Outcome.{Called}
 use Rattle.session.specs.Calls.{greet_of, login_of, plain_of, rename_of, type_of, resume_of}
 use Rattle.session.specs.declared.settings.Settings.{Settings}
 use Rattle.tally.specs.declared.calls.Ask.TheVariants.{Greet, Login, Plain, Rename, TransferType, Resume}
-use Rattle.tally.specs.declared.calls.Lent.{Lent}
 use Rattle.tally.specs.declared.calls.Row.{Row}
 use Rattle.tally.specs.Observed.{Shown, Seen}
 use Rattle.tally.specs.Law.{Start, Lawful}
-use Rattle.tally.specs.Asked.{Asked, Made, Verdict}
+use Rattle.tally.specs.Asked.{Asked, Verdict, Lengths}
+use Rattle.tally.specs.declared.calls.Call.{Call}
 
 abbrev pub told : Result Reply Fault → Verdict
 told (Ok c) = Ok (Some c)
@@ -33,35 +33,35 @@ ask_of (TransferType t) m d = in_words (type_of t m d)
 ask_of (Resume n) m d = record { answer = Ok None; after = resume_of n m; desk = d }
 
 -- of each area the first bytes, as many as the call asks to be lent, or all where there are fewer
-abbrev pub lend : Lent → Desk → Desk
+abbrev pub lend : Lengths → Desk → Desk
 lend l d = record { reply = take (min l.reply (length d.reply)) d.reply; wide = take (min l.wide (length d.wide)) d.wide; narrow = take (min l.narrow (length d.narrow)) d.narrow }
 
 -- and what the whole areas hold once they are given back
-abbrev pub give_back : Lent → Desk → Desk → Desk
+abbrev pub give_back : Lengths → Desk → Desk → Desk
 give_back l used d = record { reply = used.reply ++ drop (min l.reply (length d.reply)) d.reply; wide = used.wide ++ drop (min l.wide (length d.wide)) d.wide; narrow = used.narrow ++ drop (min l.narrow (length d.narrow)) d.narrow }
 
-unfoldable pub made_of : Made → Model → Desk → Called Verdict
+unfoldable pub made_of : Call → Model → Desk → Called Verdict
 made_of k m d = ask_of k.ask m (lend k.lent d)
 
-abbrev pub areas_after : Made → Model → Desk → Desk
+abbrev pub areas_after : Call → Model → Desk → Desk
 areas_after k m d = give_back k.lent (made_of k m d).desk d
 
 abbrev pub shows : Model → Shown
 shows m = record { wire = m.wire; kept = m.kept; carrier = m.deck.state }
 
-abbrev pub seen_of : Made → Model → Desk → Seen
+abbrev pub seen_of : Call → Model → Desk → Seen
 seen_of k m d = record { ask = k.ask; answer = (made_of k m d).answer; before = shows m; after = shows (made_of k m d).after; front = (made_of k m d).desk.reply }
 
 -- a list of calls, one after the other
-abbrev pub after_all : Model → Desk → List Made → Model
+abbrev pub after_all : Model → Desk → List Call → Model
 after_all m d [] = m
 after_all m d (k ∷ ks) = after_all (made_of k m d).after (areas_after k m d) ks
 
-abbrev pub areas_all : Model → Desk → List Made → Desk
+abbrev pub areas_all : Model → Desk → List Call → Desk
 areas_all m d [] = d
 areas_all m d (k ∷ ks) = areas_all (made_of k m d).after (areas_after k m d) ks
 
-abbrev pub seen_all : Model → Desk → List Made → List Seen
+abbrev pub seen_all : Model → Desk → List Call → List Seen
 seen_all m d [] = []
 seen_all m d (k ∷ ks) = seen_of k m d ∷ seen_all (made_of k m d).after (areas_after k m d) ks
 
@@ -84,4 +84,4 @@ start_of st w d c = record { new = shows (fresh st w d c); code = c; limit = lim
 
 -- the law of every run: any settings, link, carrier and lawful encoding, any areas, and any list of calls
 abbrev pub EveryRun : Type 0
-EveryRun = (st : Settings) (w : Wire) (d : Deck) (c : Code) → Back c → (areas : Desk) (calls : List Made) → Lawful (start_of st w d c) (seen_all (fresh st w d c) areas calls)
+EveryRun = (st : Settings) (w : Wire) (d : Deck) (c : Code) → Back c → (areas : Desk) (calls : List Call) → Lawful (start_of st w d c) (seen_all (fresh st w d c) areas calls)

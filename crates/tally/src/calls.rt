@@ -5,7 +5,7 @@ ghost use Rattle.tally.specs.Asked.{ask_map};
 use carrier::CarrierState;
 use command::{Fault, FileType};
 use reply::Reply;
-use session::{Plain as PlainCommand, Record};
+use session::{Areas, Plain as PlainCommand, Record};
 
 // What is asked of the session. The texts are borrowed where the call is made, and may be owned where it is kept.
 #[derive(Clone, Copy, Drop)]
@@ -35,16 +35,11 @@ impl<'a> From<&'a Ask<Vec<u8>>> for Ask<&'a [u8]> {
 }
 
 // How many bytes of each area are lent to a call.
-#[derive(Clone, Copy, PartialEq, Eq, Debug)]
-pub struct Lent {
-    pub reply: usize,
-    pub wide: usize,
-    pub narrow: usize,
-}
+pub type Lent = Areas<usize>;
 
-#[derive(Clone, Copy, Drop)]
-pub struct Call<T> {
-    pub ask: Ask<T>,
+#[derive(Clone, Copy)]
+pub struct Call<'a> {
+    pub ask: Ask<&'a [u8]>,
     pub lent: Lent,
 }
 

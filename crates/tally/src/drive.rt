@@ -42,8 +42,8 @@ fn put_to<L: Link, C: Carrier, E: Encoding>(
 // Makes one call. It is lent the first bytes of each area, as many as it asks for, or all where there are fewer.
 pub fn make<L: Link, C: Carrier, E: Encoding>(
     session: &mut Session<L, C, E>,
-    call: Call<&[u8]>,
-    areas: &mut Areas<'_>,
+    call: Call<'_>,
+    areas: &mut Areas<&mut [u8]>,
 ) -> Answer
     ensures answer { result ≡ (made_of call.entry (model L.Link.means C.Carrier.means E.Encoding.means session.old) (desk_of areas.old)).answer }
     ensures after { model L.Link.means C.Carrier.means E.Encoding.means session.new ≡ (made_of call.entry (model L.Link.means C.Carrier.means E.Encoding.means session.old) (desk_of areas.old)).after }
@@ -78,8 +78,8 @@ pub fn run<L: Link, C: Carrier, E: Encoding>(
     carrier: C,
     encoding: E,
     settings: Settings,
-    calls: &[Call<&[u8]>],
-    areas: &mut Areas<'_>,
+    calls: &[Call<'_>],
+    areas: &mut Areas<&mut [u8]>,
     rows: &mut [Row],
 ) -> Session<L, C, E>
     ensures after { model L.Link.means C.Carrier.means E.Encoding.means result ≡ after_all (fresh settings (L.Link.means link) (C.Carrier.means carrier) (E.Encoding.means encoding)) (desk_of areas.old) calls.now }
