@@ -3,21 +3,29 @@
 
 #[cfg(test)]
 mod tests {
-    use command::Verb;
+    use command::{Fault, Refusal, Verb};
     use link::{Buffers, Ending};
-    use reply::{Rule, read_response};
+    use reply::{Reply, Rule, read_response};
     use std::alloc::Global;
     use std::test::Fail;
 
-    // The code and the length of a reply, or a refusal's number, code and length.
-    type Answer = Result<(u16, usize), (u8, u16, usize)>;
-
     // What was answered, and how many bytes were taken so far.
-    fn heard(link: &mut Buffers<'_>, area: &mut [u8], rule: Rule) -> (Answer, usize) {
-        let answer = read_response(link, area, rule, Some(Verb::Noop))
-            .map(|reply| (reply.code, reply.length))
-            .map_err(|fault| (fault.number(), fault.code, fault.length));
+    fn heard(link: &mut Buffers<'_>, area: &mut [u8], rule: Rule) -> (Result<Reply, Fault>, usize) {
+        let answer = read_response(link, area, rule, Some(Verb::Noop));
         (answer, link.taken())
+    }
+
+    fn reply(code: u16, length: usize) -> Result<Reply, Fault> {
+        Ok(Reply { code, length })
+    }
+
+    fn fault(refusal: Refusal, code: u16, length: usize) -> Result<Reply, Fault> {
+        Err(Fault {
+            refusal,
+            verb: Some(Verb::Noop),
+            code,
+            length,
+        })
     }
 
     // A reply of one line that has `length` bytes.
@@ -36,16 +44,19 @@ mod tests {
         let mut out = [0u8; 1];
         let mut area = [7u8; 12];
         let mut link = Buffers::new(&mut out, b"220 hi\r\n226 \n20", Ending::Closed);
-        assert_eq!(rt; heard(&mut link, &mut area, Rule::Usual), (Ok((220, 8)), 8));
+        assert_eq!(rt;
+            heard(&mut link, &mut area, Rule::Usual),
+            (reply(220, 8), 8)
+        );
         assert_eq!(rt; &area, b"220 hi\r\n\x07\x07\x07\x07");
         assert_eq!(rt;
             heard(&mut link, &mut area, Rule::Usual),
-            (Ok((226, 5)), 13)
+            (reply(226, 5), 13)
         );
         assert_eq!(rt; &area, b"226 \ni\r\n\x07\x07\x07\x07");
         assert_eq!(rt;
             heard(&mut link, &mut area, Rule::Usual),
-            (Err((13, 0, 2)), 15)
+            (fault(Refusal::LinkClosed, 0, 2), 15)
         );
         assert_eq!(rt; &area, b"206 \ni\r\n\x07\x07\x07\x07");
     }
@@ -61,11 +72,11 @@ mod tests {
         );
         assert_eq!(rt;
             heard(&mut link, &mut area, Rule::Usual),
-            (Ok((226, 18)), 18)
+            (reply(226, 18), 18)
         );
         assert_eq!(rt;
             heard(&mut link, &mut area, Rule::Usual),
-            (Err((13, 0, 7)), 25)
+            (fault(Refusal::LinkClosed, 0, 7), 25)
         );
     }
 
@@ -77,19 +88,19 @@ mod tests {
         let mut link = Buffers::new(&mut out, b"220\r\n220\n+12 \n220_\n", Ending::Closed);
         assert_eq!(rt;
             heard(&mut link, &mut area, Rule::Usual),
-            (Err((16, 0, 5)), 5)
+            (fault(Refusal::ReplyIllBegun, 0, 5), 5)
         );
         assert_eq!(rt;
             heard(&mut link, &mut area, Rule::Usual),
-            (Err((16, 0, 4)), 9)
+            (fault(Refusal::ReplyIllBegun, 0, 4), 9)
         );
         assert_eq!(rt;
             heard(&mut link, &mut area, Rule::Feat),
-            (Err((16, 0, 5)), 14)
+            (fault(Refusal::ReplyIllBegun, 0, 5), 14)
         );
         assert_eq!(rt;
             heard(&mut link, &mut area, Rule::Usual),
-            (Err((16, 0, 5)), 19)
+            (fault(Refusal::ReplyIllBegun, 0, 5), 19)
         );
         assert_eq!(rt; &area, b"220_\n");
     }
@@ -101,7 +112,7 @@ mod tests {
         let mut link = Buffers::new(&mut out, b"220", Ending::Closed);
         assert_eq!(rt;
             heard(&mut link, &mut area, Rule::Usual),
-            (Err((13, 0, 3)), 3)
+            (fault(Refusal::LinkClosed, 0, 3), 3)
         );
     }
 
@@ -112,15 +123,15 @@ mod tests {
         let mut link = Buffers::new(&mut out, b"220 22", Ending::Broken);
         assert_eq!(rt;
             heard(&mut link, &mut area, Rule::Usual),
-            (Err((15, 0, 3)), 4)
+            (fault(Refusal::ReplyTooLong, 0, 3), 4)
         );
         assert_eq!(rt;
             heard(&mut link, &mut area, Rule::Usual),
-            (Err((14, 0, 2)), 6)
+            (fault(Refusal::LinkBroken, 0, 2), 6)
         );
         assert_eq!(rt;
             heard(&mut link, &mut area, Rule::Usual),
-            (Err((14, 0, 0)), 6)
+            (fault(Refusal::LinkBroken, 0, 0), 6)
         );
         assert_eq!(rt; &area, b"220");
     }
@@ -133,16 +144,19 @@ mod tests {
         let mut link = Buffers::new(&mut out, coming, Ending::Closed);
         assert_eq!(rt;
             heard(&mut link, &mut area, Rule::Feat),
-            (Ok((211, 21)), 21)
+            (reply(211, 21), 21)
         );
         assert_eq!(rt;
             heard(&mut link, &mut area, Rule::Feat),
-            (Ok((502, 14)), 35)
+            (reply(502, 14), 35)
         );
-        assert_eq!(rt; heard(&mut link, &mut area, Rule::Feat), (Ok((211, 7)), 42));
+        assert_eq!(rt;
+            heard(&mut link, &mut area, Rule::Feat),
+            (reply(211, 7), 42)
+        );
         assert_eq!(rt;
             heard(&mut link, &mut area, Rule::Usual),
-            (Ok((200, 14)), 56)
+            (reply(200, 14), 56)
         );
     }
 
@@ -154,14 +168,14 @@ mod tests {
         let mut link = Buffers::new(&mut out, line.as_slice(), Ending::Closed);
         assert_eq!(rt;
             heard(&mut link, &mut area, Rule::Usual),
-            (Ok((220, 512)), 512)
+            (reply(220, 512), 512)
         );
         let longer = long_line(rt.alloc(), 513)?;
         let mut other = [0u8; 1];
         let mut over = Buffers::new(&mut other, longer.as_slice(), Ending::Closed);
         assert_eq!(rt;
             heard(&mut over, &mut area, Rule::Usual),
-            (Err((15, 0, 512)), 513)
+            (fault(Refusal::ReplyTooLong, 0, 512), 513)
         );
         Ok(())
     }
@@ -174,14 +188,14 @@ mod tests {
         let mut link = Buffers::new(&mut out, line.as_slice(), Ending::Closed);
         assert_eq!(rt;
             heard(&mut link, area.as_mut_slice(), Rule::Usual),
-            (Ok((220, 262_144)), 262_144)
+            (reply(220, 262_144), 262_144)
         );
         let longer = long_line(rt.alloc(), 262_145)?;
         let mut other = [0u8; 1];
         let mut over = Buffers::new(&mut other, longer.as_slice(), Ending::Closed);
         assert_eq!(rt;
             heard(&mut over, area.as_mut_slice(), Rule::Usual),
-            (Err((15, 0, 262_144)), 262_145)
+            (fault(Refusal::ReplyTooLong, 0, 262_144), 262_145)
         );
         Ok(())
     }

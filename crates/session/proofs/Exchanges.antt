@@ -8,7 +8,7 @@ use Rattle.session.specs.Model.{Model}
 use Rattle.session.specs.Outcome.{ends, next}
 use Rattle.session.specs.Calls.{perform_of, hear_of, expected_of, settled_by, settles, exchange_of}
 
-module _ (v : Verb) (argument : Option (List ℕ)) (ss : List Status) (last : Reply) (m : Model) (area : List ℕ) (m₁ : Model) (a₁ : List ℕ) where
+module _ (v : Verb) (argument : Option (List ℕ)) (ss : List Status) (last : Option Reply) (m : Model) (area : List ℕ) (m₁ : Model) (a₁ : List ℕ) where
   pub unsent : (e d : Fault) (r : Result Reply Fault) → r ≡ Err d → d ≡ e → ends (Err e) m₁ a₁ ≡ perform_of v argument last m area → ends r m₁ a₁ ≡ exchange_of v argument ss last m area
   unfolding exchange_of
   unsent e d r is same performed = ap (λ z. ends z m₁ a₁) (is ∙ ap (λ z. Err z) same) ∙ ap (λ o. next o (λ _ m₂ a₂. next (hear_of (Some v) m₂ a₂) (settles ss v))) performed

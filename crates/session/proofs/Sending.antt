@@ -22,7 +22,7 @@ serves wide narrow x h g =
     rw (a, b)
 
 -- a refusal came through as the fault of a line
-abbrev pub Told : {X : Type 0} → Verb → Reply → Result X Refusal → Result X Fault → Type 0
+abbrev pub Told : {X : Type 0} → Verb → Option Reply → Result X Refusal → Result X Fault → Type 0
 Told v last came r = MatchResult came (λ x. r ≡ Ok x) (λ e. r ≡ Err (fault e (Some v) last))
 
 abbrev Put : Type 0
@@ -36,7 +36,7 @@ not_taken : (b : Bool) (x : FullLink) → ◌≡◌ {A = Put} (Err x) (cond b (O
 not_taken true x e = let z : ◌≡◌ {A = ℕ} 0 1 = cc in absurd (omega arith)
 not_taken false x e = refl
 
-module _ (v : Verb) (argument : Option (List ℕ)) (last : Reply) (m : Model) (area : List ℕ) where
+module _ (v : Verb) (argument : Option (List ℕ)) (last : Option Reply) (m : Model) (area : List ℕ) where
   -- the line is at the front of the wide area
   module _ (n : ℕ) (made : List ℕ) (is : Ok (take n made) ≡ line_of m.code v argument) where
     whole : Ok (take (n - 0) made) ≡ line_of m.code v argument

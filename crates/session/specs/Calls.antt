@@ -22,16 +22,17 @@ use Rattle.session.specs.declared.plain.Plain.TheVariants.{Cwd as DoCwd, Cdup as
 use Rattle.session.specs.Model.{Model, Desk, limit_of, with_wire, with_step, with_greeted, with_restart}
 use Rattle.session.specs.Outcome.{Outcome, ends, next, Called, past}
 
--- no reply read yet
-abbrev pub none_read : Reply
-none_read = record { code = 0; length = 0 }
+-- what is told of the last reply that a call read: with none read, code and length are 0
+abbrev pub last_told : Option Reply → Reply
+last_told None = record { code = 0; length = 0 }
+last_told (Some c) = c
 
 -- a refusal, with the verb it speaks of and the last reply read in the call
-abbrev pub fault : Refusal → Option Verb → Reply → Fault
-fault n v c = record { refusal = n; verb = v; code = c.code; length = c.length }
+abbrev pub fault : Refusal → Option Verb → Option Reply → Fault
+fault n v last = record { refusal = n; verb = v; code = (last_told last).code; length = (last_told last).length }
 
 abbrev pub refusal : Refusal → Fault
-refusal n = fault n None none_read
+refusal n = fault n None None
 
 -- the reply area is as long as the limit, and the work areas have room for a line escaped and encoded
 abbrev pub long_enough : Model → Desk → Bool
@@ -54,16 +55,16 @@ questions_of greeted m d =
     (Err (refusal AreaTooShort))
 
 -- a line is put whole, or it is refused and not sent
-abbrev pub puts : Bool → List ℕ → Verb → Reply → Model → List ℕ → Outcome (Result (Unit {0}) Fault)
+abbrev pub puts : Bool → List ℕ → Verb → Option Reply → Model → List ℕ → Outcome (Result (Unit {0}) Fault)
 puts true l v last m area = ends (Ok tt) (with_wire (put_of l m.wire) m) area
 puts false l v last m area = ends (Err (fault LinkFull (Some v) last)) m area
 
-abbrev pub performs : Result (List ℕ) Refusal → Verb → Reply → Model → List ℕ → Outcome (Result (Unit {0}) Fault)
+abbrev pub performs : Result (List ℕ) Refusal → Verb → Option Reply → Model → List ℕ → Outcome (Result (Unit {0}) Fault)
 performs (Ok l) v last m area = puts (fits l m.wire) l v last m area
 performs (Err n) v last m area = ends (Err (fault n (Some v) last)) m area
 
 -- a command's line, in a call that last read the reply `last`
-unfoldable pub perform_of : Verb → Option (List ℕ) → Reply → Model → List ℕ → Outcome (Result (Unit {0}) Fault)
+unfoldable pub perform_of : Verb → Option (List ℕ) → Option Reply → Model → List ℕ → Outcome (Result (Unit {0}) Fault)
 perform_of v arg last m area = performs (line_of m.code v arg) v last m area
 
 -- a reply fills the reply area from its front; one that is not finished leaves the session out of step
@@ -79,7 +80,7 @@ hear_of v m area = hears v m area (cut_of m).got (cut_of m).rest
 
 -- is the status one of those expected?
 abbrev pub expected_of : List Status → Option Verb → Reply → Result Reply Fault
-expected_of ss v c = cond (expects ss c.code) (Ok c) (Err (fault UnexpectedStatus v c))
+expected_of ss v c = cond (expects ss c.code) (Ok c) (Err (fault UnexpectedStatus v (Some c)))
 
 -- a reply that only announces another, where the line was to be settled, leaves the session out of step
 abbrev pub settled_by : ℕ → Model → Model
@@ -89,27 +90,27 @@ abbrev pub settles : List Status → Verb → Reply → Model → List ℕ → O
 settles ss v c m area = ends (expected_of ss (Some v) c) (settled_by c.code m) area
 
 -- a line and the reply that settles it
-unfoldable pub exchange_of : Verb → Option (List ℕ) → List Status → Reply → Model → List ℕ → Outcome (Result Reply Fault)
+unfoldable pub exchange_of : Verb → Option (List ℕ) → List Status → Option Reply → Model → List ℕ → Outcome (Result Reply Fault)
 exchange_of v arg ss last m area = next (perform_of v arg last m area) (λ _ m₁ a₁. next (hear_of (Some v) m₁ a₁) (settles ss v))
 
 -- the greeting is no line's: whatever its status, the session stays in step
 abbrev pub welcomes : Bool → Reply → Model → List ℕ → Outcome (Result Reply Fault)
 welcomes true c m area = ends (Ok c) (with_greeted true m) area
-welcomes false c m area = ends (Err (fault UnexpectedStatus None c)) m area
+welcomes false c m area = ends (Err (fault UnexpectedStatus None (Some c))) m area
 
 abbrev pub greeting_of : Model → List ℕ → Outcome (Result Reply Fault)
 greeting_of m area = next (hear_of None m area) (λ c. welcomes (expects (Ready ∷ []) c.code) c)
 
 -- USER, and after 331 PASS
 abbrev pub password_of : List ℕ → Reply → Model → List ℕ → Outcome (Result Reply Fault)
-password_of password c m area = cond (c.code == status_code NeedPassword) (exchange_of Pass (Some password) (LoggedIn ∷ []) c m area) (ends (Ok c) m area)
+password_of password c m area = cond (c.code == status_code NeedPassword) (exchange_of Pass (Some password) (LoggedIn ∷ []) (Some c) m area) (ends (Ok c) m area)
 
 abbrev pub logging_in : List ℕ → List ℕ → Model → List ℕ → Outcome (Result Reply Fault)
-logging_in user password m area = next (exchange_of User (Some user) (LoggedIn ∷ NeedPassword ∷ []) none_read m area) (password_of password)
+logging_in user password m area = next (exchange_of User (Some user) (LoggedIn ∷ NeedPassword ∷ []) None m area) (password_of password)
 
 -- RNFR and RNTO
 abbrev pub renaming : List ℕ → List ℕ → Model → List ℕ → Outcome (Result Reply Fault)
-renaming from to m area = next (exchange_of Rnfr (Some from) (RequestFilePending ∷ []) none_read m area) (exchange_of Rnto (Some to) (RequestedFileActionOk ∷ CommandOk ∷ []))
+renaming from to m area = next (exchange_of Rnfr (Some from) (RequestFilePending ∷ []) None m area) (λ c. exchange_of Rnto (Some to) (RequestedFileActionOk ∷ CommandOk ∷ []) (Some c))
 
 -- the lines that one reply settles
 abbrev pub verb_of : {T : Type 0} → Plain T → Verb
@@ -147,13 +148,13 @@ abbrev pub login_of : List ℕ → List ℕ → Model → Desk → Called (Resul
 login_of user password m d = past (questions_of true m d) m d (logging_in user password m d.reply)
 
 abbrev pub plain_of : Plain (Bor (List ℕ)) → Model → Desk → Called (Result Reply Fault)
-plain_of p m d = past (questions_of true m d) m d (exchange_of (verb_of p) (argument_of p) (statuses_of p) none_read m d.reply)
+plain_of p m d = past (questions_of true m d) m d (exchange_of (verb_of p) (argument_of p) (statuses_of p) None m d.reply)
 
 abbrev pub rename_of : List ℕ → List ℕ → Model → Desk → Called (Result Reply Fault)
 rename_of from to m d = past (questions_of true m d) m d (renaming from to m d.reply)
 
 abbrev pub type_of : FileType → Model → Desk → Called (Result Reply Fault)
-type_of t m d = past (questions_of true m d) m d (exchange_of SetType (Some (type_text t)) (CommandOk ∷ []) none_read m d.reply)
+type_of t m d = past (questions_of true m d) m d (exchange_of SetType (Some (type_text t)) (CommandOk ∷ []) None m d.reply)
 
 -- an offset of 0 is none
 abbrev pub offset_of : ℕ → Option ℕ

@@ -5,7 +5,7 @@ ghost use Rattle.session.specs.Areas.{desk_of, SameAreas, Serve};
 ghost use Rattle.session.specs.Calls.{greeting_of, logging_in, renaming, greet_of, login_of, plain_of, rename_of, type_of, resume_of};
 
 use crate::areas::Areas;
-use crate::control::{expect, nothing_read, with_argument};
+use crate::control::{expect, with_argument};
 use crate::plain::Plain;
 use crate::session::Session;
 use carrier::Carrier;
@@ -49,17 +49,12 @@ impl<L: Link, C: Carrier, E: Encoding> Session<L, C, E> {
         ensures same { SameAreas areas.old areas.new }
     {
         let name = with_argument(Verb::User, user);
-        let answer = self.exchange(
-            name,
-            &[Status::LoggedIn, Status::NeedPassword],
-            nothing_read(),
-            areas,
-        )?;
+        let answer = self.exchange(name, &[Status::LoggedIn, Status::NeedPassword], None, areas)?;
         if answer.code != Status::NeedPassword.code() {
             return Ok(answer);
         }
         let secret = with_argument(Verb::Pass, password);
-        self.exchange(secret, &[Status::LoggedIn], answer, areas)
+        self.exchange(secret, &[Status::LoggedIn], Some(answer), areas)
     }
 
     // Logs in. The password is sent only if the server asks for one.
@@ -88,7 +83,7 @@ impl<L: Link, C: Carrier, E: Encoding> Session<L, C, E> {
         ensures same { SameAreas areas.old areas.new }
     {
         self.questions(true, areas)?;
-        let answer = self.exchange(plain.command(), plain.expected(), nothing_read(), areas);
+        let answer = self.exchange(plain.command(), plain.expected(), None, areas);
         areas.wipe();
         answer
     }
@@ -105,12 +100,12 @@ impl<L: Link, C: Carrier, E: Encoding> Session<L, C, E> {
         ensures same { SameAreas areas.old areas.new }
     {
         let old = with_argument(Verb::Rnfr, from);
-        let answer = self.exchange(old, &[Status::RequestFilePending], nothing_read(), areas)?;
+        let answer = self.exchange(old, &[Status::RequestFilePending], None, areas)?;
         let new = with_argument(Verb::Rnto, to);
         self.exchange(
             new,
             &[Status::RequestedFileActionOk, Status::CommandOk],
-            answer,
+            Some(answer),
             areas,
         )
     }
@@ -142,7 +137,7 @@ impl<L: Link, C: Carrier, E: Encoding> Session<L, C, E> {
         self.questions(true, areas)?;
         let text = file_type.text();
         let command = with_argument(Verb::Type, text.as_slice());
-        let answer = self.exchange(command, &[Status::CommandOk], nothing_read(), areas);
+        let answer = self.exchange(command, &[Status::CommandOk], None, areas);
         areas.wipe();
         answer
     }
@@ -151,6 +146,6 @@ impl<L: Link, C: Carrier, E: Encoding> Session<L, C, E> {
     pub fn resume(&mut self, offset: u64)
         ensures { model L.Link.means C.Carrier.means E.Encoding.means self.new ≡ resume_of offset (model L.Link.means C.Carrier.means E.Encoding.means self.old) }
     {
-        self.kept.restart = if offset == 0 { None } else { Some(offset) };
+        self.kept.restart = (offset != 0).then_some(offset);
     }
 }

@@ -3,7 +3,7 @@ ghost use Rattle.std.specs.Prelude.{◌≡◌, ◌≤◌, length, Some, MatchRes
 ghost use Rattle.command.specs.Lines.{argument_of};
 ghost use Rattle.session.specs.Model.{model};
 ghost use Rattle.session.specs.Areas.{desk_of, SameAreas, Serve};
-ghost use Rattle.session.specs.Calls.{none_read, fault, refusal, questions_of, perform_of, hear_of, expected_of, settled_by, exchange_of};
+ghost use Rattle.session.specs.Calls.{fault, refusal, questions_of, perform_of, hear_of, expected_of, settled_by, exchange_of};
 
 use crate::areas::Areas;
 use crate::session::Session;
@@ -13,32 +13,27 @@ use encoding::Encoding;
 use link::Link;
 use reply::{Reply, Rule, Status, is_expected, is_preliminary, read_response};
 
-// No reply read yet. Not `None`, since a call that read none answers code 0 and length 0.
-pub(crate) fn nothing_read() -> Reply
-    ensures { result ≡ none_read }
-{
-    Reply { code: 0, length: 0 }
-}
-
-pub(crate) fn fault_with(refusal: Refusal, verb: Option<Verb>, last: Reply) -> Fault
+// A call that has read no reply yet tells code 0 and length 0.
+fn fault_with(refusal: Refusal, verb: Option<Verb>, last: Option<Reply>) -> Fault
     ensures { result ≡ fault refusal verb last }
 {
+    let (code, length) = last.map_or((0, 0), |reply| (reply.code, reply.length));
     Fault {
         refusal,
         verb,
-        code: last.code,
-        length: last.length,
+        code,
+        length,
     }
 }
 
 fn refused(why: Refusal) -> Fault
     ensures { result ≡ refusal why }
 {
-    fault_with(why, None, nothing_read())
+    fault_with(why, None, None)
 }
 
 // What came of a line, a refusal as the fault that the call answers.
-fn at_line<T>(came: Result<T, Refusal>, verb: Verb, last: Reply) -> Result<T, Fault>
+fn at_line<T>(came: Result<T, Refusal>, verb: Verb, last: Option<Reply>) -> Result<T, Fault>
     ensures { MatchResult came (λ x. result ≡ Ok x) (λ e. result ≡ Err (fault e (Some verb) last)) }
 {
     came.map_err(|refusal| fault_with(refusal, Some(verb), last))
@@ -51,7 +46,7 @@ pub(crate) fn expect(expected: &[Status], verb: Option<Verb>, reply: Reply) -> R
     if is_expected(expected, reply.code) {
         Ok(reply)
     } else {
-        Err(fault_with(Refusal::UnexpectedStatus, verb, reply))
+        Err(fault_with(Refusal::UnexpectedStatus, verb, Some(reply)))
     }
 }
 
@@ -94,7 +89,7 @@ impl<L: Link, C: Carrier, E: Encoding> Session<L, C, E> {
     fn perform(
         &mut self,
         command: Command<'_>,
-        last: Reply,
+        last: Option<Reply>,
         areas: &mut Areas<&mut [u8]>,
     ) -> Result<(), Fault>
         requires wide { 8704 ≤ length areas.old.wide.now }
@@ -149,7 +144,7 @@ impl<L: Link, C: Carrier, E: Encoding> Session<L, C, E> {
         &mut self,
         command: Command<'_>,
         expected: &[Status],
-        last: Reply,
+        last: Option<Reply>,
         areas: &mut Areas<&mut [u8]>,
     ) -> Result<Reply, Fault>
         requires { Serve self.old.kept.settings.limit areas.old }

@@ -1,12 +1,13 @@
 // What a session is made with, what it remembers, and what it leaves in the areas that it is lent.
 use crate::cases::settings;
 use carrier::{Carrier, CarrierState, Dialler, IpAddr, SocketAddr};
+use command::Refusal;
 use encoding::Utf8Encoding;
 use link::{Buffers, Ending};
 use session::{Areas, Session};
 
-// The code of the reply to greet, or the number of its refusal.
-fn greet_in(reply: &mut [u8], wide: &mut [u8], narrow: &mut [u8]) -> Result<u16, u8> {
+// The code of the reply to greet, or why it was refused.
+fn greet_in(reply: &mut [u8], wide: &mut [u8], narrow: &mut [u8]) -> Result<u16, Refusal> {
     let mut areas = Areas {
         reply,
         wide,
@@ -17,10 +18,9 @@ fn greet_in(reply: &mut [u8], wide: &mut [u8], narrow: &mut [u8]) -> Result<u16,
     let mut session = Session::new(link, Dialler::new(), Utf8Encoding, settings(512));
     let answer = session.greet(&mut areas);
     let (_link, _carrier, _encoding) = session.into_parts();
-    match answer {
-        Ok(reply) => Ok(reply.code),
-        Err(fault) => Err(fault.number()),
-    }
+    answer
+        .map(|reply| reply.code)
+        .map_err(|fault| fault.refusal)
 }
 
 #[test]
@@ -28,7 +28,10 @@ fn areas_are_wiped(rt: HostRuntime) {
     let mut reply = [7; 12];
     let mut wide = [7; 8705];
     let mut narrow = [7; 4353];
-    assert_eq!(rt; greet_in(&mut reply, &mut wide, &mut narrow), Err(1));
+    assert_eq!(rt;
+        greet_in(&mut reply, &mut wide, &mut narrow),
+        Err(Refusal::AreaTooShort)
+    );
     assert!(rt; reply == [7; 12] && wide == [7; 8705] && narrow == [7; 4353]);
     let mut longer = [7; 600];
     assert_eq!(rt; greet_in(&mut longer, &mut wide, &mut narrow), Ok(220));
@@ -41,10 +44,16 @@ fn short_work_areas_are_refused(rt: HostRuntime) {
     let mut reply = [7; 512];
     let mut wide = [7; 8703];
     let mut narrow = [7; 4352];
-    assert_eq!(rt; greet_in(&mut reply, &mut wide, &mut narrow), Err(1));
+    assert_eq!(rt;
+        greet_in(&mut reply, &mut wide, &mut narrow),
+        Err(Refusal::AreaTooShort)
+    );
     let mut longer = [7; 8704];
     let mut shorter = [7; 4351];
-    assert_eq!(rt; greet_in(&mut reply, &mut longer, &mut shorter), Err(1));
+    assert_eq!(rt;
+        greet_in(&mut reply, &mut longer, &mut shorter),
+        Err(Refusal::AreaTooShort)
+    );
     assert!(rt; reply == [7; 512] && wide == [7; 8703] && narrow == [7; 4352]);
     assert!(rt; longer == [7; 8704] && shorter == [7; 4351]);
 }

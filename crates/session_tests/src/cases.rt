@@ -1,20 +1,16 @@
 // A run of calls on a new session, and what must have come of it.
 use carrier::{CarrierState, Dialler, IpAddr, PeerRule};
-use command::Verb;
+use command::{Fault, Refusal, Verb};
 use encoding::Encoding;
 use link::{Buffers, Ending};
 use reply::Reply;
 use session::{Areas, Mode, Record, Settings};
 use std::process::Abort;
-use tally::{Ask, Call, Lent, Row, run};
-
-// A refusal: its number, the verb of its fault, and the code and the length of the last reply read.
-#[derive(Clone, Copy, PartialEq, Eq, Debug)]
-pub struct Numbered(pub u8, pub Option<Verb>, pub u16, pub usize);
+use tally::{Answer, Ask, Call, Lent, Row, run};
 
 // What came of a call, and whether the session is in step after it.
 #[derive(Clone, Copy, PartialEq, Eq, Debug)]
-pub struct Came(pub Result<Option<Reply>, Numbered>, pub bool);
+pub struct Came(pub Answer, pub bool);
 
 // A reply with this code and length.
 pub fn passed(code: u16, length: usize) -> Came {
@@ -22,8 +18,20 @@ pub fn passed(code: u16, length: usize) -> Came {
 }
 
 // A refusal, after which the session is in step or not.
-pub fn refused(number: u8, verb: Option<Verb>, code: u16, length: usize, in_step: bool) -> Came {
-    Came(Err(Numbered(number, verb, code, length)), in_step)
+pub fn refused(
+    refusal: Refusal,
+    verb: Option<Verb>,
+    code: u16,
+    length: usize,
+    in_step: bool,
+) -> Came {
+    let fault = Fault {
+        refusal,
+        verb,
+        code,
+        length,
+    };
+    Came(Err(fault), in_step)
 }
 
 // A call that has no reply.
@@ -49,7 +57,7 @@ pub const FULL: Lent = Lent {
 };
 
 // A call with such areas.
-pub fn full(ask: Ask<&[u8]>) -> Call<&[u8]> {
+pub fn full(ask: Ask<&[u8]>) -> Call<'_> {
     Call { ask, lent: FULL }
 }
 
@@ -69,14 +77,6 @@ fn unwritten() -> Row {
     }
 }
 
-fn came_of(row: &Row) -> Came {
-    let answer = match row.answer {
-        Ok(reply) => Ok(reply),
-        Err(fault) => Err(Numbered(fault.number(), fault.verb, fault.code, fault.length)),
-    };
-    Came(answer, row.kept.in_step)
-}
-
 // Some calls over a link that takes `room` bytes and has `coming` to give, and what must have come of each, been sent and
 // been taken.
 #[derive(Clone, Copy)]
@@ -84,7 +84,7 @@ pub struct Case<'a> {
     pub room: usize,
     pub coming: &'a [u8],
     pub ending: Ending,
-    pub calls: &'a [Call<&'a [u8]>],
+    pub calls: &'a [Call<'a>],
     pub came: &'a [Came],
     pub sent: &'a [u8],
     pub taken: usize,
@@ -93,7 +93,7 @@ pub struct Case<'a> {
 fn check_rows(rt: &impl Abort, rows: &[Row], came: &[Came]) {
     assert!(rt; rows.len() >= came.len());
     for (row, expected) in rows.iter().zip(came) {
-        assert_eq!(rt; came_of(row), *expected);
+        assert_eq!(rt; Came(row.answer, row.kept.in_step), *expected);
     }
 }
 
@@ -108,7 +108,7 @@ fn runs<'a, E: Encoding + Drop>(
     let mut reply = [7; 512];
     let mut wide = [7; 8704];
     let mut narrow = [7; 4352];
-    let mut areas = Areas {
+    let mut areas: Areas<&mut [u8]> = Areas {
         reply: &mut reply,
         wide: &mut wide,
         narrow: &mut narrow,

@@ -1,7 +1,7 @@
 // The lines that are sent, and every refusal of a line.
 use crate::cases::{Came, Case, full, holds, passed, refused};
 use crate::encodings::{Mute, Prefixed, Suffixed};
-use command::Verb;
+use command::{Refusal, Verb};
 use encoding::{Encoding, Utf8Encoding};
 use link::Ending;
 use session::Plain;
@@ -37,29 +37,41 @@ fn passes<E: Encoding + Drop>(rt: &impl Abort, encoding: E, room: usize, path: &
     changes_directory(rt, encoding, room, path, passed(250, 7), sent, 14);
 }
 
-fn refuses<E: Encoding + Drop>(rt: &impl Abort, encoding: E, room: usize, path: &[u8], number: u8) {
-    let came = refused(number, Some(Verb::Cwd), 0, 0, true);
+fn refuses<E: Encoding + Drop>(
+    rt: &impl Abort,
+    encoding: E,
+    room: usize,
+    path: &[u8],
+    refusal: Refusal,
+) {
+    let came = refused(refusal, Some(Verb::Cwd), 0, 0, true);
     changes_directory(rt, encoding, room, path, came, b"", 7);
 }
 
 #[test]
 fn arguments_are_refused(rt: HostRuntime) {
-    refuses(&rt, Utf8Encoding, 64, &[255; 4097], 6);
-    refuses(&rt, Utf8Encoding, 64, b"a\xFF\r", 7);
-    refuses(&rt, Utf8Encoding, 64, b"a\rb", 8);
+    refuses(
+        &rt,
+        Utf8Encoding,
+        64,
+        &[255; 4097],
+        Refusal::ArgumentTooLong,
+    );
+    refuses(&rt, Utf8Encoding, 64, b"a\xFF\r", Refusal::ArgumentNotUtf8);
+    refuses(&rt, Utf8Encoding, 64, b"a\rb", Refusal::ArgumentNotOneLine);
 }
 
 #[test]
 fn encoded_lines_are_refused(rt: HostRuntime) {
-    refuses(&rt, Mute, 64, b"a", 9);
-    refuses(&rt, Suffixed(13), 64, b"a", 10);
-    refuses(&rt, Prefixed(13), 64, b"a", 11);
+    refuses(&rt, Mute, 64, b"a", Refusal::NoEncoding);
+    refuses(&rt, Suffixed(13), 64, b"a", Refusal::LineNotEnded);
+    refuses(&rt, Prefixed(13), 64, b"a", Refusal::LineNotOne);
 }
 
 #[test]
 fn full_links_refuse(rt: HostRuntime) {
-    refuses(&rt, Utf8Encoding, 64, &[b'a'; 4096], 12);
-    refuses(&rt, Utf8Encoding, 6, b"a", 12);
+    refuses(&rt, Utf8Encoding, 64, &[b'a'; 4096], Refusal::LinkFull);
+    refuses(&rt, Utf8Encoding, 6, b"a", Refusal::LinkFull);
     passes(&rt, Utf8Encoding, 7, b"a", b"CWD a\r\n");
 }
 

@@ -1,6 +1,6 @@
 // The replies that calls read, and what they leave.
 use crate::cases::{Came, Case, done, full, holds, passed, refused};
-use command::{FileType, Verb};
+use command::{FileType, Refusal, Verb};
 use encoding::Utf8Encoding;
 use link::Ending;
 use session::Plain;
@@ -44,7 +44,7 @@ fn logins(rt: HostRuntime) {
         23,
     );
     // a password that is refused is not sent, and the fault says what USER was answered
-    let refused = refused(8, Some(Verb::Pass), 331, 8, true);
+    let refused = refused(Refusal::ArgumentNotOneLine, Some(Verb::Pass), 331, 8, true);
     greeted(
         &rt,
         b"220 a\r\n331 bb\r\n230 c\r\n",
@@ -69,7 +69,7 @@ fn renames(rt: HostRuntime) {
         &rt,
         b"220 a\r\n550 b\r\n250 c\r\n",
         Ask::Rename(b"a", b"b"),
-        refused(17, Some(Verb::Rnfr), 550, 7, true),
+        refused(Refusal::UnexpectedStatus, Some(Verb::Rnfr), 550, 7, true),
         b"RNFR a\r\n",
         14,
     );
@@ -77,7 +77,11 @@ fn renames(rt: HostRuntime) {
 
 #[test]
 fn types(rt: HostRuntime) {
-    let came = [passed(220, 7), passed(200, 7), refused(1, None, 0, 0, true)];
+    let came = [
+        passed(220, 7),
+        passed(200, 7),
+        refused(Refusal::AreaTooShort, None, 0, 0, true),
+    ];
     let short = Lent {
         reply: 511,
         wide: 8704,
@@ -110,10 +114,10 @@ fn types(rt: HostRuntime) {
 #[test]
 fn greetings(rt: HostRuntime) {
     let came = [
-        refused(3, None, 0, 0, true),
-        refused(17, None, 120, 7, true),
+        refused(Refusal::GreetingDue, None, 0, 0, true),
+        refused(Refusal::UnexpectedStatus, None, 120, 7, true),
         passed(220, 7),
-        refused(3, None, 0, 0, true),
+        refused(Refusal::GreetingDue, None, 0, 0, true),
         passed(257, 7),
     ];
     let calls = [
@@ -165,7 +169,7 @@ fn noops(rt: &impl Abort, coming: &[u8], ending: Ending, came: &[Came], sent: &[
 fn another_status(rt: HostRuntime) {
     let another = [
         passed(220, 7),
-        refused(17, Some(Verb::Noop), 500, 7, true),
+        refused(Refusal::UnexpectedStatus, Some(Verb::Noop), 500, 7, true),
         done(true),
         passed(250, 7),
     ];
@@ -179,9 +183,9 @@ fn another_status(rt: HostRuntime) {
     );
     let preliminary = [
         passed(220, 7),
-        refused(17, Some(Verb::Noop), 150, 7, false),
+        refused(Refusal::UnexpectedStatus, Some(Verb::Noop), 150, 7, false),
         done(false),
-        refused(2, None, 0, 0, false),
+        refused(Refusal::OutOfStep, None, 0, 0, false),
     ];
     noops(
         &rt,
@@ -197,9 +201,9 @@ fn another_status(rt: HostRuntime) {
 fn broken_links(rt: HostRuntime) {
     let came = [
         passed(220, 7),
-        refused(14, Some(Verb::Noop), 0, 3, false),
+        refused(Refusal::LinkBroken, Some(Verb::Noop), 0, 3, false),
         done(false),
-        refused(2, None, 0, 0, false),
+        refused(Refusal::OutOfStep, None, 0, 0, false),
     ];
     noops(&rt, b"220 a\r\n200", Ending::Broken, &came, b"NOOP\r\n", 10);
 }
@@ -215,7 +219,7 @@ fn ungreeted(rt: &impl Abort, coming: &[u8], came: Came, taken: usize) {
             coming,
             ending: Ending::Closed,
             calls: &calls,
-            came: &[came, refused(2, None, 0, 0, false)],
+            came: &[came, refused(Refusal::OutOfStep, None, 0, 0, false)],
             sent: b"",
             taken,
         },
@@ -224,12 +228,22 @@ fn ungreeted(rt: &impl Abort, coming: &[u8], came: Came, taken: usize) {
 
 #[test]
 fn unfinished(rt: HostRuntime) {
-    ungreeted(&rt, b"22", refused(13, None, 0, 2, false), 2);
+    ungreeted(
+        &rt,
+        b"22",
+        refused(Refusal::LinkClosed, None, 0, 2, false),
+        2,
+    );
     ungreeted(
         &rt,
         b"hello\r\n220 a\r\n",
-        refused(16, None, 0, 7, false),
+        refused(Refusal::ReplyIllBegun, None, 0, 7, false),
         7,
     );
-    ungreeted(&rt, &[b'a'; 513], refused(15, None, 0, 512, false), 513);
+    ungreeted(
+        &rt,
+        &[b'a'; 513],
+        refused(Refusal::ReplyTooLong, None, 0, 512, false),
+        513,
+    );
 }

@@ -12,7 +12,7 @@ use Rattle.command.specs.declared.verb.Verb.TheVariants.{«Type» as SetType}
 use Rattle.reply.specs.declared.reply.Reply.{Reply}
 use Rattle.session.specs.Model.{Model, Desk}
 use Rattle.session.specs.Outcome.{Outcome, Called, wiped, past}
-use Rattle.session.specs.Calls.{none_read, refusal, long_enough, greeted_as, questions_of}
+use Rattle.session.specs.Calls.{refusal, long_enough, greeted_as, questions_of}
 use Rattle.tally.specs.declared.calls.Ask.TheVariants.{Greet, Login, Plain, Rename, TransferType, Resume}
 use Rattle.tally.specs.Observed.{greeting, marked, by_ask}
 use Rattle.tally.specs.Tally.{Tally, on}
@@ -104,7 +104,7 @@ none_accepted (Resume k) n h = refl
 refused_first : (c : Code) (ask : Asked) (m : Model) (t : Tally) (d : Desk) → Tied c m t → (n : Refusal) → First n → Moved c ask m t (record { answer = Err (refusal n); after = m; desk = d })
 refused_first c ask m t d tied n h = moved_none c ask m t (Err (refusal n)) m d (unmarked ask n h) refl tied (record {
   accepts = none_accepted ask n (first_early n h);
-  newest = subst (λ r. Newest t t (Own ask t t) r d.reply) (sym (read_early n (first_early n h) None none_read)) refl;
+  newest = subst (λ r. Newest t t (Own ask t t) r d.reply) (sym (read_early n (first_early n h) None None)) refl;
 })
 
 -- a session that is in step has a tally that is whole

@@ -12,7 +12,7 @@ use Rattle.reply.specs.declared.status.Status.{Status}
 use Rattle.reply.specs.declared.status.Status.TheVariants.{CommandOk, LoggedIn, RequestedFileActionOk, NeedPassword, RequestFilePending}
 use Rattle.session.specs.Model.{Model, Desk}
 use Rattle.session.specs.Outcome.{Outcome, ends, past}
-use Rattle.session.specs.Calls.{none_read, questions_of, exchange_of, password_of, logging_in, renaming, verb_of, argument_of, statuses_of, resume_of}
+use Rattle.session.specs.Calls.{last_told, questions_of, exchange_of, password_of, logging_in, renaming, verb_of, argument_of, statuses_of, resume_of}
 use Rattle.session.specs.declared.plain.Plain.{Plain as PlainCommand}
 use Rattle.session.specs.declared.plain.Plain.TheVariants.{Cwd as DoCwd, Cdup as DoCdup, Dele as DoDele, Rmd as DoRmd, Mkd as DoMkd, Noop as DoNoop, Quit as DoQuit}
 use Rattle.tally.specs.declared.calls.Ask.TheVariants.{Greet, Login, Plain, Rename, TransferType, Resume}
@@ -29,7 +29,7 @@ use Rattle.tally.proofs.Greeting.{greet_moves}
 use Rattle.tally.specs.Asked.{Asked, Verdict}
 
 -- where a call begins, no reply was read in it
-begins : (t : Tally) (area : List ℕ) → Sofar t t (last_read none_read) area
+begins : (t : Tally) (area : List ℕ) → Sofar t t (last_read (last_told None)) area
 begins t area = record { more = omega arith; newest = refl }
 
 -- the last reply read, as the next line finds it
@@ -49,8 +49,8 @@ abbrev One : Said → Verdict → List Said → Type 0
 One s a saids = saids ≡ one_of s a
 
 -- its line and reply
-does_one : (code : Code) (s : Said) (expected : List Status) (m : Model) (t : Tally) (area : List ℕ) → Tied code m t → t.broken ≡ false → Does code m t (exchange_of s.verb s.argument expected none_read m area) (Through (One s) t)
-does_one code s expected m t area tied e = does_weaken code (Exchanged s expected t) (Through (One s) t) m t _ one_line (does_exchange code s expected none_read t m t area e tied (begins t area))
+does_one : (code : Code) (s : Said) (expected : List Status) (m : Model) (t : Tally) (area : List ℕ) → Tied code m t → t.broken ≡ false → Does code m t (exchange_of s.verb s.argument expected None m area) (Through (One s) t)
+does_one code s expected m t area tied e = does_weaken code (Exchanged s expected t) (Through (One s) t) m t _ one_line (does_exchange code s expected None t m t area e tied (begins t area))
   where
     one_line : (r : Result Reply Fault) (saids : List Said) (a : List ℕ) (u : Tally) → Exchanged s expected t r saids a u → Through (One s) t r saids a u
     one_line (Ok c) saids a u h = (h.said, h.sofar)
@@ -101,18 +101,18 @@ module _ (code : Code) (user password : List ℕ) (t₀ : Tally) where
   after_user (Err e) before more area t h q = (second_stopped (say User user) (say Pass password) e before more refl refl q.verb h q.said, q.sofar)
 
   -- PASS, if the reply to USER asks for it
-  does_password : (c : Reply) (saids : List Said) (m : Model) (t : Tally) (area : List ℕ) → Tied code m t → Settled (say User user) (LoggedIn ∷ NeedPassword ∷ []) t₀ c saids area t → (b : Bool) → eqb c.code (status_code NeedPassword) ≡ b → Does code m t (cond b (exchange_of Pass (Some password) (LoggedIn ∷ []) c m area) (ends (Ok c) m area)) (λ r more. Logged r (saids ++ more))
+  does_password : (c : Reply) (saids : List Said) (m : Model) (t : Tally) (area : List ℕ) → Tied code m t → Settled (say User user) (LoggedIn ∷ NeedPassword ∷ []) t₀ c saids area t → (b : Bool) → eqb c.code (status_code NeedPassword) ≡ b → Does code m t (cond b (exchange_of Pass (Some password) (LoggedIn ∷ []) (Some c) m area) (ends (Ok c) m area)) (λ r more. Logged r (saids ++ more))
   does_password c saids m t area tied h true e =
       does_weaken code (Exchanged (say Pass password) (LoggedIn ∷ []) t₀) (λ r more. Logged r (saids ++ more)) m t _ (λ r more a u q. after_user r saids more a u h.said q)
-      (does_exchange code (say Pass password) (LoggedIn ∷ []) c t₀ m t area (h.whole (need_password c.code e)) tied (last_sofar t₀ t c area h.some h.sofar))
+      (does_exchange code (say Pass password) (LoggedIn ∷ []) (Some c) t₀ m t area (h.whole (need_password c.code e)) tied (last_sofar t₀ t c area h.some h.sofar))
   does_password c saids m t area tied h false e = does_ends code (λ r more. Logged r (saids ++ more)) m t (Ok c) area tied (inl (ap (λ z. z ++ []) h.said), h.sofar)
 
 -- the whole login
 does_login : (code : Code) (user password : List ℕ) (m : Model) (t : Tally) (area : List ℕ) → Tied code m t → t.broken ≡ false → Does code m t (logging_in user password m area) (Through (LoginAccepts (say User user) (say Pass password)) t)
 does_login code user password m t area tied e =
     does_next code (Exchanged (say User user) (LoggedIn ∷ NeedPassword ∷ []) t) (Logged code user password t) (password_of password) m t
-    (exchange_of User (Some user) (LoggedIn ∷ NeedPassword ∷ []) none_read m area)
-    (does_exchange code (say User user) (LoggedIn ∷ NeedPassword ∷ []) none_read t m t area e tied (begins t area))
+    (exchange_of User (Some user) (LoggedIn ∷ NeedPassword ∷ []) None m area)
+    (does_exchange code (say User user) (LoggedIn ∷ NeedPassword ∷ []) None t m t area e tied (begins t area))
     (λ c saids u tied₁ h. does_password code user password t c saids _ u _ tied₁ h (eqb c.code (status_code NeedPassword)) refl)
     (λ f saids u h. (first_stopped (say User user) (say Pass password) f saids refl h.verb h.said, h.sofar))
 
@@ -136,17 +136,17 @@ module _ (code : Code) (from to : List ℕ) (t₀ : Tally) where
   after_from (Err e) before more area t h q = (second_stopped (say Rnfr from) (say Rnto to) e before more refl refl q.verb h q.said, q.sofar)
 
   -- RNTO
-  does_to : (c : Reply) (saids : List Said) (m : Model) (t : Tally) (area : List ℕ) → Tied code m t → Settled (say Rnfr from) (RequestFilePending ∷ []) t₀ c saids area t → Does code m t (exchange_of Rnto (Some to) (RequestedFileActionOk ∷ CommandOk ∷ []) c m area) (λ r more. Renamed r (saids ++ more))
+  does_to : (c : Reply) (saids : List Said) (m : Model) (t : Tally) (area : List ℕ) → Tied code m t → Settled (say Rnfr from) (RequestFilePending ∷ []) t₀ c saids area t → Does code m t (exchange_of Rnto (Some to) (RequestedFileActionOk ∷ CommandOk ∷ []) (Some c) m area) (λ r more. Renamed r (saids ++ more))
   does_to c saids m t area tied h =
       does_weaken code (Exchanged (say Rnto to) (RequestedFileActionOk ∷ CommandOk ∷ []) t₀) (λ r more. Renamed r (saids ++ more)) m t _ (λ r more a u q. after_from r saids more a u h.said q)
-      (does_exchange code (say Rnto to) (RequestedFileActionOk ∷ CommandOk ∷ []) c t₀ m t area (h.whole (pending c.code h.status)) tied (last_sofar t₀ t c area h.some h.sofar))
+      (does_exchange code (say Rnto to) (RequestedFileActionOk ∷ CommandOk ∷ []) (Some c) t₀ m t area (h.whole (pending c.code h.status)) tied (last_sofar t₀ t c area h.some h.sofar))
 
 -- the whole rename
 does_rename : (code : Code) (from to : List ℕ) (m : Model) (t : Tally) (area : List ℕ) → Tied code m t → t.broken ≡ false → Does code m t (renaming from to m area) (Through (RenameAccepts (say Rnfr from) (say Rnto to)) t)
 does_rename code from to m t area tied e =
-    does_next code (Exchanged (say Rnfr from) (RequestFilePending ∷ []) t) (Renamed code from to t) (exchange_of Rnto (Some to) (RequestedFileActionOk ∷ CommandOk ∷ [])) m t
-    (exchange_of Rnfr (Some from) (RequestFilePending ∷ []) none_read m area)
-    (does_exchange code (say Rnfr from) (RequestFilePending ∷ []) none_read t m t area e tied (begins t area))
+    does_next code (Exchanged (say Rnfr from) (RequestFilePending ∷ []) t) (Renamed code from to t) (λ c. exchange_of Rnto (Some to) (RequestedFileActionOk ∷ CommandOk ∷ []) (Some c)) m t
+    (exchange_of Rnfr (Some from) (RequestFilePending ∷ []) None m area)
+    (does_exchange code (say Rnfr from) (RequestFilePending ∷ []) None t m t area e tied (begins t area))
     (λ c saids u tied₁ h. does_to code from to t c saids _ u _ tied₁ h)
     (λ f saids u h. (first_stopped (say Rnfr from) (say Rnto to) f saids refl h.verb h.said, h.sofar))
 

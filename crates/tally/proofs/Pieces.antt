@@ -16,7 +16,7 @@ use Rattle.reply.specs.declared.status.Status.{Status}
 use Rattle.reply.proofs.Locality.{Known, reply_took}
 use Rattle.session.specs.Model.{Model, limit_of, with_wire, with_step}
 use Rattle.session.specs.Outcome.{Outcome, ends, next}
-use Rattle.session.specs.Calls.{fault, puts, performs, perform_of, hears, hear_of, expected_of, settles, exchange_of}
+use Rattle.session.specs.Calls.{last_told, fault, puts, performs, perform_of, hears, hear_of, expected_of, settles, exchange_of}
 use Rattle.tally.specs.Observed.{sent}
 use Rattle.tally.specs.Tally.{Given, Tally, gives, settle, one_more, on}
 use Rattle.tally.specs.Law.{Said, unsent, read_by, Accepted, Newest}
@@ -68,7 +68,7 @@ front_is k coming took rest area e h =
     take_at (take k coming) _ k (length-take-le k coming inside) ∙ ap (take k) e ∙ take-append-le k took rest h
 
 -- what the answer to a reply's status says
-judged : (s : Said) (expected : List Status) (t₀ : Tally) (c : Reply) (area : List ℕ) (t : Tally) → 0 < c.length → (preliminary c.code ≡ false → t.broken ≡ false) → Sofar t₀ t (Some (Ok c)) area → (b : Bool) → expects expected c.code ≡ b → Exchanged s expected t₀ (cond b (Ok c) (Err (fault UnexpectedStatus (Some s.verb) c))) (s ∷ []) area t
+judged : (s : Said) (expected : List Status) (t₀ : Tally) (c : Reply) (area : List ℕ) (t : Tally) → 0 < c.length → (preliminary c.code ≡ false → t.broken ≡ false) → Sofar t₀ t (Some (Ok c)) area → (b : Bool) → expects expected c.code ≡ b → Exchanged s expected t₀ (cond b (Ok c) (Err (fault UnexpectedStatus (Some s.verb) (Some c)))) (s ∷ []) area t
 judged s expected t₀ c area t some whole sofar true e = record { said = refl; status = e; whole = whole; some = last_some c some; sofar = sofar }
 judged s expected t₀ c area t some whole sofar false e = record { said = refl; verb = refl; sofar = subst (λ r. Sofar t₀ t r area) (sym (last_some c some)) sofar }
 
@@ -146,7 +146,7 @@ module _ (code : Code) (s : Said) (expected : List Status) (t₀ : Tally) (m : M
           post = record { said = ap (λ b. cond b [] (s ∷ [])) (sym why.sent); verb = refl; sofar = subst (λ r. Sofar t₀ (given_now (lines ∷ []) true (Err u)) r (area_now (Err u))) (sym why.read) (sofar_now (lines ∷ []) true (Err u) stored) };
         }
 
-  module _ (last : Reply) (sofar : Sofar t₀ (whole_tally m lines given) (last_read last) area) where
+  module _ (last : Option Reply) (sofar : Sofar t₀ (whole_tally m lines given) (last_read (last_told last)) area) where
     -- a line that is not sent
     refused : (n : Refusal) → Early n → Does code m (whole_tally m lines given) (ends (Err (fault n (Some s.verb) last)) m area) (Exchanged s expected t₀)
     refused n early = does_ends code (Exchanged s expected t₀) m _ (Err (fault n (Some s.verb) last)) area tied (record {
@@ -182,7 +182,7 @@ module _ (code : Code) (s : Said) (expected : List Status) (t₀ : Tally) (m : M
     exchange = perform (line_of m.code s.verb s.argument) (ap (λ z. line_of z s.verb s.argument) (sym tied.code))
 
 -- a line and the reply that settles it, in a call that began at t₀ and last read the reply `last`
-pub does_exchange : (code : Code) (s : Said) (expected : List Status) (last : Reply) (t₀ : Tally) (m : Model) (t : Tally) (area : List ℕ) → t.broken ≡ false → Tied code m t → Sofar t₀ t (last_read last) area → Does code m t (exchange_of s.verb s.argument expected last m area) (Exchanged s expected t₀)
+pub does_exchange : (code : Code) (s : Said) (expected : List Status) (last : Option Reply) (t₀ : Tally) (m : Model) (t : Tally) (area : List ℕ) → t.broken ≡ false → Tied code m t → Sofar t₀ t (last_read (last_told last)) area → Does code m t (exchange_of s.verb s.argument expected last m area) (Exchanged s expected t₀)
 does_exchange code s expected last t₀ m t area e tied =
-    subst (λ u. Tied code m u → Sofar t₀ u (last_read last) area → Does code m u (exchange_of s.verb s.argument expected last m area) (Exchanged s expected t₀)) (whole_same code m t tied e)
+    subst (λ u. Tied code m u → Sofar t₀ u (last_read (last_told last)) area → Does code m u (exchange_of s.verb s.argument expected last m area) (Exchanged s expected t₀)) (whole_same code m t tied e)
     (λ h k. exchange code s expected t₀ m t.lines t.given h area last k) tied

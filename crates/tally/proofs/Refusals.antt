@@ -13,7 +13,7 @@ use Rattle.command.specs.declared.verb.Verb.{Verb}
 use Rattle.reply.specs.Replies.{Unread, lost, fault_of}
 use Rattle.reply.specs.declared.reply.Reply.{Reply}
 use Rattle.reply.proofs.Locality.{Reason, ended, too_long, ill_begun}
-use Rattle.session.specs.Calls.{fault}
+use Rattle.session.specs.Calls.{last_told, fault}
 use Rattle.tally.specs.Tally.{by_end}
 use Rattle.tally.specs.Law.{unsent, read_by}
 use Rattle.tally.proofs.Tallies.{never}
@@ -84,11 +84,11 @@ pub last_some : (c : Reply) → 0 < c.length → last_read c ≡ Some (Ok c)
 last_some c h = ap (λ b. cond b None (Some (Ok c))) (ne_eqb c.length 0 (λ e. omega arith))
 
 -- a fault whose line was not sent hands out the reply that was last read
-pub read_early : (n : Refusal) → Early n → (v : Option Verb) (c : Reply) → read_by (fault n v c) ≡ last_read c
-read_early n h v c =
+pub read_early : (n : Refusal) → Early n → (v : Option Verb) (last : Option Reply) → read_by (fault n v last) ≡ last_read (last_told last)
+read_early n h v last =
     let small = leb-true (number_of n) 12 h in
     let no : leb 13 (number_of n) ≡ false = lt-leb 13 (number_of n) (omega arith) in
-    ap (λ b. cond (b && leb (number_of n) 16) (Some (Err (record { why = n; length = c.length }))) (last_read c)) no
+    ap (λ b. cond (b && leb (number_of n) 16) (Some (Err (record { why = n; length = (last_told last).length }))) (last_read (last_told last))) no
 
 -- a reply that is not finished: its line was sent, its fault says why, and the link is said to have ended only where nothing
 -- is left

@@ -11,6 +11,7 @@ use encoding::Encoding;
 use link::Link;
 use session::{Areas, Session, Settings};
 
+// The three apart, since the checker does not cover parts of slices that are lent out of a struct's fields.
 fn put_to<L: Link, C: Carrier, E: Encoding>(
     session: &mut Session<L, C, E>,
     ask: Ask<&[u8]>,
