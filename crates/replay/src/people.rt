@@ -44,9 +44,12 @@ fn print_call(rt: &HostRuntime, ask: &OwnedAsk) -> anyhow::Result<()> {
 }
 
 // Each line sent and the reply that came after it. A call sends at most two lines and reads at most two replies.
-fn print_exchange(rt: &HostRuntime, sent: &[u8], came: &[u8], limit: usize) -> anyhow::Result<()> {
-    let mut sent = sent;
-    let mut came = came;
+fn print_exchange(
+    rt: &HostRuntime,
+    mut sent: &[u8],
+    mut came: &[u8],
+    limit: usize,
+) -> anyhow::Result<()> {
     for _ in 0..2 {
         let line = line_length(sent);
         print_lines(rt, "  sent      ", front(sent, line))?;

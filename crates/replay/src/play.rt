@@ -10,7 +10,7 @@ use tally::{Ask, Call, make};
 
 pub type Played<'a, 'b> = Session<Buffers<'a>, HostScript<'b>, Utf8Encoding>;
 
-// For whom it is told what happened.
+// For whom it is told what happened. A value and no type parameter, since it is chosen while the program's words are read.
 #[derive(Clone, Copy, PartialEq, Eq)]
 pub enum Account {
     People,

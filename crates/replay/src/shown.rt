@@ -33,33 +33,31 @@ pub struct Readable<'a>(pub &'a [u8]);
 impl fmt::Display for Readable<'_> {
     fn fmt<W: fmt::Write>(&self, f: &mut fmt::Formatter<W>) -> fmt::Result {
         match std::str::from_utf8(self.0) {
-            Ok(text) => write_text(f, text),
-            Err(_) => write_bytes(f, self.0),
+            Ok(text) => {
+                for letter in text.chars() {
+                    write_letter(f, letter, letter >= ' ' && letter != '\u{7f}')?;
+                }
+            }
+            Err(_) => {
+                for byte in self.0 {
+                    write_letter(f, char::from(*byte), matches!(*byte, b' '..=b'~'))?;
+                }
+            }
         }
+        Ok(())
     }
 }
 
-fn write_text<W: fmt::Write>(f: &mut fmt::Formatter<W>, text: &str) -> fmt::Result {
-    for letter in text.chars() {
-        if letter >= ' ' && letter != '\u{7f}' {
-            f.write_char(letter)?;
-        } else {
-            let code = letter as u32;
-            write!(f, "\\x{code:02x}")?;
-        }
+fn write_letter<W: fmt::Write>(
+    f: &mut fmt::Formatter<W>,
+    letter: char,
+    readable: bool,
+) -> fmt::Result {
+    if readable {
+        return f.write_char(letter);
     }
-    Ok(())
-}
-
-fn write_bytes<W: fmt::Write>(f: &mut fmt::Formatter<W>, bytes: &[u8]) -> fmt::Result {
-    for byte in bytes {
-        if *byte >= 32 && *byte < 127 {
-            f.write_char(*byte as char)?;
-        } else {
-            write!(f, "\\x{byte:02x}")?;
-        }
-    }
-    Ok(())
+    let code = u32::from(letter);
+    write!(f, "\\x{code:02x}")
 }
 
 // How many bytes the first line has, with its byte 10; all of them where none ends it.
@@ -79,7 +77,7 @@ pub fn unended(line: &[u8]) -> &[u8] {
     }
 }
 
-// The word by which a script makes the call. A table as the script's own, which reads the other way: neither gives the other.
+// The word by which a script makes the call. No `Display`, since `Ask` is another crate's, and the script's table reads the other way.
 pub fn call_name<T>(ask: &Ask<T>) -> &'static str {
     match ask {
         Ask::Greet => "greet",

@@ -33,10 +33,9 @@ pub struct Session<L, C, E> {
 
 impl<L: Link, C: Carrier, E: Encoding> Session<L, C, E> {
     // A session that has read nothing yet. The carrier is closed.
-    pub fn new(link: L, carrier: C, encoding: E, settings: Settings) -> Session<L, C, E>
+    pub fn new(link: L, mut carrier: C, encoding: E, settings: Settings) -> Session<L, C, E>
         ensures { model L.Link.means C.Carrier.means E.Encoding.means result ≡ fresh settings (L.Link.means link) (C.Carrier.means carrier) (E.Encoding.means encoding) }
     {
-        let mut carrier = carrier;
         carrier.close();
         let settings = Settings {
             limit: settings.clamped_limit(),

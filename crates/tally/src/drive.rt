@@ -90,6 +90,7 @@ pub fn run<L: Link, C: Carrier, E: Encoding>(
     ensures lawful { Lawful (start_of settings (L.Link.means link) (C.Carrier.means carrier) (E.Encoding.means encoding)) (seen_all (fresh settings (L.Link.means link) (C.Carrier.means carrier) (E.Encoding.means encoding)) (desk_of areas.old) calls.now) }
 {
     let mut session = Session::new(link, carrier, encoding, settings);
+    // No `zip` with the rows, since every call is made, also where there are fewer of them.
     for (i, call) in calls.iter().enumerate() {
         let answer = make(&mut session, *call, areas);
         let row = Row {
