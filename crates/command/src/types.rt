@@ -1,9 +1,9 @@
 // The representation types of the TYPE command.
 ghost use Rattle.std.specs.Prelude.{◌≡◌, ◌+◌, ◌≤◌, [], ◌∷◌, ◌++◌, length, Some};
-ghost use Rattle.arrayvec.specs.ArrayVec.{array_vec_len};
+ghost use Rattle.arrayvec.specs.ArrayString.{array_string_len};
 ghost use Rattle.command.specs.Types.{format_letter, type_text};
 
-use arrayvec::ArrayVec;
+use arrayvec::ArrayString;
 use std::fmt;
 
 // How a text is prepared for printing.
@@ -41,15 +41,15 @@ impl FormatControl {
 
 impl FileType {
     // TYPE's argument.
-    pub fn text(self) -> ArrayVec<u8, 8>
-        ensures text { result.items ≡ type_text self }
-        ensures short { array_vec_len result ≤ 5 }
+    pub fn text(self) -> ArrayString<8>
+        ensures text { result.bytes ≡ type_text self }
+        ensures short { array_string_len result ≤ 5 }
     {
         match self {
-            FileType::Ascii(control) => joined(b"A ", control.letter().as_bytes()),
-            FileType::Ebcdic(control) => joined(b"E ", control.letter().as_bytes()),
-            FileType::Image | FileType::Binary => joined(b"I", b""),
-            FileType::Local(bits) => joined(b"L ", itoa::Buffer::new().format(bits).as_bytes()),
+            FileType::Ascii(control) => joined("A ", control.letter()),
+            FileType::Ebcdic(control) => joined("E ", control.letter()),
+            FileType::Image | FileType::Binary => joined("I", ""),
+            FileType::Local(bits) => joined("L ", itoa::Buffer::new().format(bits)),
         }
     }
 }
@@ -58,21 +58,16 @@ impl fmt::Display for FileType {
     ghost output = { λ file_type. Some (type_text file_type) };
 
     fn fmt<W: fmt::Write>(&self, f: &mut fmt::Formatter<W>) -> fmt::Result {
-        match *self {
-            FileType::Ascii(control) => write!(f, "A {}", control.letter()),
-            FileType::Ebcdic(control) => write!(f, "E {}", control.letter()),
-            FileType::Image | FileType::Binary => f.write_str("I"),
-            FileType::Local(bits) => write!(f, "L {bits}"),
-        }
+        f.write_str(self.text().as_str())
     }
 }
 
-fn joined(front: &[u8], back: &[u8]) -> ArrayVec<u8, 8>
+fn joined(front: &str, back: &str) -> ArrayString<8>
     requires { length front.now + length back.now ≤ 5 }
-    ensures { result.items ≡ front.now ++ back.now }
+    ensures { result.bytes ≡ front.now ++ back.now }
 {
-    let mut text = ArrayVec::new();
-    text.try_extend_from_slice(front).unwrap();
-    text.try_extend_from_slice(back).unwrap();
+    let mut text = ArrayString::new();
+    text.push_str(front);
+    text.push_str(back);
     text
 }

@@ -107,7 +107,7 @@ mod tests {
     }
 
     fn type_is(rt: &impl Abort, kind: FileType, text: &[u8]) {
-        assert!(rt; kind.text().as_slice() == text);
+        assert!(rt; kind.text().as_str().as_bytes() == text);
     }
 
     #[test]

@@ -136,7 +136,7 @@ impl<L: Link, C: Carrier, E: Encoding> Session<L, C, E> {
     {
         self.questions(true, areas)?;
         let text = file_type.text();
-        let command = with_argument(Verb::Type, text.as_slice());
+        let command = with_argument(Verb::Type, text.as_str().as_bytes());
         let answer = self.exchange(command, &[Status::CommandOk], None, areas);
         areas.wipe();
         answer
