@@ -1,5 +1,5 @@
 -- Where lines, words and the parts of addresses end. Assumes nothing.
-use Rattle.std.specs.Prelude.{◌≡◌, ℕ, ◌+◌, ◌<◌, Bool, true, cond, not, List, [], length, take, drop, Some, None, Option, ◌==◌, nat_lt}
+use Rattle.std.specs.Prelude.{◌≡◌, ℕ, ◌+◌, ◌<◌, Bool, true, cond, not, List, [], ◌∷◌, length, take, drop, Some, None, Option, ◌==◌, nat_lt}
 use Rattle.std.specs.List.{prefix_len}
 
 -- Whether a byte is a space or a tab.
@@ -29,6 +29,11 @@ split_at b cs = around (prefix_len (other b) cs) cs
 -- The word at the front, up to the first blank.
 abbrev pub first_word : List ℕ → List ℕ
 first_word cs = take (prefix_len inked cs) cs
+
+-- The word at the front, where anything is left; none at the end.
+abbrev pub next_word : List ℕ → Option (List ℕ)
+next_word [] = None
+next_word (c ∷ cs) = Some (first_word (c ∷ cs))
 
 -- What follows that word and the blanks behind it.
 abbrev pub past_word : List ℕ → List ℕ

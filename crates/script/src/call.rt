@@ -72,7 +72,7 @@ fn read_file_type(words: &mut Words) -> Result<FileType, Problem> {
 
 // A format may be left out: at the line's end and before the lengths of the areas.
 fn read_format(words: &mut Words) -> Result<FormatControl, Problem> {
-    if words.is_over() || matches!(words.peek(), b"with") {
+    if matches!(words.peek(), None | Some(b"with")) {
         return Ok(FormatControl::Default);
     }
     words.choice()

@@ -1,4 +1,4 @@
-// The words among which a setting, a call or the front of a line has one.
+// Types whose values a script writes as words.
 #![tactic(auto, using(crate::proofs::Choices::apart))]
 
 ghost use Rattle.std.specs.Prelude.{◌≡◌, ℕ, List, Option};

@@ -21,6 +21,7 @@ use std::alloc::{AllocError, Global};
 use tally::Lent;
 
 // The lines of a text that are left, each without its byte 10.
+// The library's `split_inclusive` leaves that byte in its parts; here the promise of `next` says which line comes.
 #[derive(Drop)]
 struct Lines<'a> {
     rest: &'a [u8],
@@ -46,6 +47,8 @@ impl<'a> Iterator for Lines<'a> {
 // What was read so far. The areas that a call is lent hang on the limit, which may be said behind it.
 #[derive(Drop)]
 struct Draft {
+    // Where what was read is kept.
+    heap: Global,
     said: Said,
     server: Vec<u8>,
     host: Vec<Entry>,
@@ -82,6 +85,7 @@ fn without_cr(line: &[u8]) -> &[u8]
 impl Draft {
     fn new(heap: Global) -> Draft {
         Draft {
+            heap,
             said: Said::default(),
             server: Vec::new(heap),
             host: Vec::new(heap),
@@ -89,8 +93,8 @@ impl Draft {
         }
     }
 
-    fn read_line(&mut self, heap: Global, number: usize, line: &[u8]) -> Result<(), Problem> {
-        let mut words = Words::of(heap, without_cr(line));
+    fn read_line(&mut self, number: usize, line: &[u8]) -> Result<(), Problem> {
+        let mut words = Words::of(self.heap, without_cr(line));
         if words.is_over() || words.is_comment() {
             return Ok(());
         }
@@ -123,8 +127,9 @@ impl Draft {
         Ok(())
     }
 
-    fn finish(self, heap: Global) -> Result<Script, AllocError> {
+    fn finish(self) -> Result<Script, AllocError> {
         let Draft {
+            heap,
             said,
             server,
             host,
@@ -156,10 +161,8 @@ pub fn parse(heap: Global, text: &[u8]) -> Result<Script, ScriptError> {
     for line in (Lines { rest: text }) {
         number += 1;
         draft
-            .read_line(heap, number, line)
+            .read_line(number, line)
             .map_err(|problem| problem.at(number))?;
     }
-    draft
-        .finish(heap)
-        .map_err(|_| Problem::OutOfMemory.at(number))
+    draft.finish().map_err(|_| Problem::OutOfMemory.at(number))
 }

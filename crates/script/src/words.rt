@@ -1,7 +1,8 @@
 // The words of a line, one after another from the left.
 ghost use Rattle.std.specs.Prelude.{◌≡◌, ℕ, Ok, ◌≤◌, drop, length, ◌<◌, ◌↔◌, IsTrue, IsOkUnless, IfOk, IfSome, Some, OnOk, OnErr, slice_get};
 ghost use Rattle.script.specs.Addresses.{address_of};
-ghost use Rattle.script.specs.Cuts.{trimmed, first_word, past_word};
+ghost use Rattle.script.specs.Cuts.{trimmed, first_word, past_word, next_word};
+ghost use Rattle.std.specs.Option.{option_map};
 ghost use Rattle.script.specs.Quotes.{meaning, bytes_of};
 
 use crate::address::read_address;
@@ -62,11 +63,14 @@ impl<'a> Words<'a> {
         Ok(word)
     }
 
-    // The next word, which stays; nothing at the line's end.
-    pub(crate) fn peek(&self) -> &'a [u8]
-        ensures { result.now ≡ first_word self.now.rest.now }
+    // The next word, which stays; none at the line's end.
+    pub(crate) fn peek(&self) -> Option<&'a [u8]>
+        ensures { option_map (λ w. w.now) result ≡ next_word self.now.rest.now }
     {
-        &self.rest[..word_length(self.rest)]
+        if self.is_over() {
+            return None;
+        }
+        Some(&self.rest[..word_length(self.rest)])
     }
 
     pub(crate) fn is_comment(&self) -> bool

@@ -12,10 +12,7 @@ mod tests {
     use std::test::Fail;
 
     fn read(heap: Global, text: &str) -> Result<Script, Fail> {
-        match parse(heap, text.as_bytes()) {
-            Ok(script) => Ok(script),
-            Err(error) => Err(Fail::new(error)),
-        }
+        Ok(parse(heap, text.as_bytes())?)
     }
 
     #[test]
