@@ -11,6 +11,7 @@ use crate::verb::Verb;
 pub struct Fault {
     pub refusal: Refusal,
     pub verb: Option<Verb>,
+    // Numbers, 0 where no reply was read, since docs/RULES.md (Refusals) has them so.
     pub code: u16,
     pub length: usize,
 }

@@ -8,6 +8,7 @@ use crate::wire::{BrokenLink, Ending, FullLink};
 #[derive(Drop)]
 pub struct Buffers<'a> {
     out: &'a mut [u8],
+    // A place beside the buffer, since nothing may be allocated and `sent` lends the buffer's front.
     used: usize,
     incoming: &'a [u8],
     coming: &'a [u8],

@@ -33,6 +33,7 @@ fn next_byte<L: Link>(link: &mut L, stored: usize, verb: Option<Verb>) -> Result
 
 // Reads on to the end of a line, a byte at a time, and answers where in the area it ends. A byte that comes when the area is
 // full is taken from the link, and the reply is too long.
+// Places in the area, since the reply must lie whole at its front.
 fn read_line<L: Link>(
     link: &mut L,
     area: &mut [u8],
@@ -66,6 +67,7 @@ pub fn read_response<L: Link>(
     ensures reads { record { answer = result; area = area.new; link = L.means link.new } ≡ heard verb (reply rule (length area.old) (L.means link.old).ending (L.means link.old).coming) area.old (L.means link.old) }
     ensures rfc { ByGrammar rule (length area.old) (L.means link.old).coming result }
 {
+    // Places in the area, since the reply must lie whole at its front.
     let mut end = read_line(link, area, 0, verb)?;
     let Some(last) = settled(rule, &area[..end]) else {
         return Err(unfinished(Refusal::ReplyIllBegun, verb, end));

@@ -7,7 +7,7 @@ use text::is_digit;
 
 // Which line is the last: the first that decides, or the first that begins `211 `.
 #[derive(Clone, Copy)]
-pub enum Last {
+pub(crate) enum Last {
     Deciding,
     Features,
 }
@@ -56,14 +56,14 @@ fn last_of(rule: Rule, first: &[u8]) -> Last
 }
 
 // Which line will be the last, or none where the first line is ill begun.
-pub fn settled(rule: Rule, first: &[u8]) -> Option<Last>
+pub(crate) fn settled(rule: Rule, first: &[u8]) -> Option<Last>
     ensures { result ≡ settled rule first.now }
 {
     well_begun(first).then_some(last_of(rule, first))
 }
 
 // The code of a line that is the last.
-pub fn ending_code(last: Last, line: &[u8]) -> Option<u16>
+pub(crate) fn ending_code(last: Last, line: &[u8]) -> Option<u16>
     ensures { result ≡ ender last line.now }
 {
     match last {

@@ -5,3 +5,4 @@ pub mod Ones
 pub mod Runs
 pub mod Fronts
 pub mod Chars
+pub mod Folds

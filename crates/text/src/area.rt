@@ -46,21 +46,17 @@ impl<'a> Pieces<'a> for Parts<'a> {
 }
 
 // Whether the pieces have room.
-fn fit<'a, P: Pieces<'a>>(pieces: P, room: usize) -> bool
+fn fit<'a, P: Pieces<'a>>(mut pieces: P, room: usize) -> bool
     ensures { result ≡ nat_le (length (P.bytes pieces)) room }
 {
-    let mut left = room;
-    for piece in pieces {
-        if left < piece.len() {
-            return false;
-        }
-        left -= piece.len();
-    }
-    true
+    pieces
+        .try_fold(room, |left, piece| left.checked_sub(piece.len()))
+        .is_some()
 }
 
 // Writes the pieces one behind another to the front of the area and answers how many bytes they have; or, where they do
 // not fit, answers none and leaves the area as it was.
+// The length is answered beside the lent area, since nothing may be allocated and the area is the caller's.
 pub fn write_front<'a, P: Pieces<'a>>(pieces: P, area: &mut [u8]) -> Option<usize>
     ensures { record { answer = result; area = area.new } ≡ filled (Some (P.bytes pieces)) area.old }
 {
