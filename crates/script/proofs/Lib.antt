@@ -1,3 +1,4 @@
 mod Numbers
 mod Quotes
 mod Choices
+mod Addresses

@@ -1,5 +1,5 @@
 -- What the parts of an address say. Assumes nothing.
-use Rattle.std.specs.Prelude.{ℕ, ◌+◌, ◌*◌, cond, List, [], ◌∷◌, is_some, Some, None, Option, Ok, Err, Result, nat_le}
+use Rattle.std.specs.Prelude.{ℕ, zero, suc, ◌+◌, ◌*◌, cond, List, [], ◌∷◌, is_some, Some, None, Option, Ok, Err, Result, nat_le}
 use Rattle.script.specs.Cuts.{split_at}
 use Rattle.script.specs.Numbers.{numeral_of, hex_pair_of}
 use Rattle.carrier.specs.declared.address.IpAddr.{IpAddr}
@@ -42,6 +42,12 @@ bind (Some x) f = f x
 -- The part before the first such byte, and what follows the byte.
 abbrev pub part_before : {A : Type 0} → ℕ → (List ℕ → Option A) → List ℕ → Option (A × List ℕ)
 part_before b part_of cs = bind (split_at b cs) (λ p. bind (part_of p.0) (λ n. Some (n, p.1)))
+
+-- So many parts, each before the next such byte, and what follows the last of these bytes.
+abbrev pub parts_before : {A : Type 0} → ℕ → (List ℕ → Option A) → ℕ → List ℕ → Option (List A × List ℕ)
+parts_before b part_of zero cs = Some ([], cs)
+parts_before b part_of (suc n) cs =
+    bind (part_before b part_of cs) (λ p. bind (parts_before b part_of n p.1) (λ q. Some (p.0 ∷ q.0, q.1)))
 
 -- The number before the first dot, and what follows the dot.
 abbrev pub octet_before_dot : List ℕ → Option (ℕ × List ℕ)

@@ -1,7 +1,7 @@
 // Addresses as they are written in a script.
 ghost use Rattle.std.specs.Prelude.{◌≡◌, ℕ, List, Option};
 ghost use Rattle.std.specs.Option.{option_map};
-ghost use Rattle.script.specs.Addresses.{octet_of, group_of, four_digits_of, part_before, v4_of, v6_of, address_of};
+ghost use Rattle.script.specs.Addresses.{octet_of, group_of, four_digits_of, part_before, parts_before, v4_of, v6_of, address_of};
 
 use crate::cut::split_once;
 use crate::number::{hex_pair, read_number};
@@ -61,13 +61,11 @@ pub(crate) fn read_address(word: &[u8]) -> Option<IpAddr>
     }
 }
 
-// One part after another, as the definitions have them; a loop that fills an array of four or eight is no plainer.
 fn read_v4(word: &[u8]) -> Option<IpAddr>
     ensures { result ≡ v4_of word.now }
 {
-    let (a, rest) = part_before::<u8>(word)?;
-    let (b, rest) = part_before::<u8>(rest)?;
-    let (c, rest) = part_before::<u8>(rest)?;
+    let mut rest = word;
+    let [a, b, c] = parts_before::<u8, 3>(&mut rest)?;
     let d = u8::read(rest)?;
     Some(IpAddr::V4([a, b, c, d]))
 }
@@ -75,15 +73,23 @@ fn read_v4(word: &[u8]) -> Option<IpAddr>
 fn read_v6(word: &[u8]) -> Option<IpAddr>
     ensures { result ≡ v6_of word.now }
 {
-    let (a, rest) = part_before::<u16>(word)?;
-    let (b, rest) = part_before::<u16>(rest)?;
-    let (c, rest) = part_before::<u16>(rest)?;
-    let (d, rest) = part_before::<u16>(rest)?;
-    let (e, rest) = part_before::<u16>(rest)?;
-    let (f, rest) = part_before::<u16>(rest)?;
-    let (g, rest) = part_before::<u16>(rest)?;
+    let mut rest = word;
+    let [a, b, c, d, e, f, g] = parts_before::<u16, 7>(&mut rest)?;
     let h = u16::read(rest)?;
     Some(IpAddr::V6([a, b, c, d, e, f, g, h]))
+}
+
+// The parts before the first separators; what follows these is left.
+fn parts_before<P: AddressPart + Copy + Default, const N: usize>(rest: &mut &[u8]) -> Option<[P; N]>
+    ensures { option_map (λ ps. (ps, rest.new.now)) result ≡ parts_before P.SEPARATOR P.part_of N rest.old.now }
+{
+    let mut parts = [P::default(); N];
+    for place in parts.iter_mut() {
+        let (part, behind) = part_before(*rest)?;
+        *place = part;
+        *rest = behind;
+    }
+    Some(parts)
 }
 
 // The part before the first separator, and what follows the separator.

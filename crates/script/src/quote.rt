@@ -9,7 +9,7 @@ use std::alloc::Global;
 // What stands at the front of a quoted text.
 #[derive(Clone, Copy, PartialEq, Eq, Debug)]
 pub(crate) enum Piece {
-    // A byte, and how many bytes it is written with.
+    // A byte, and how many bytes it is written with: not the rest of the text, since its meaning is defined by this length.
     Byte { byte: u8, length: usize },
     // The closing quote.
     Close,

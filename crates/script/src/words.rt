@@ -1,8 +1,8 @@
 // The words of a line, one after another from the left.
 ghost use Rattle.std.specs.Prelude.{◌≡◌, ℕ, Ok, ◌≤◌, drop, length, ◌<◌, ◌↔◌, IsTrue, IsOkUnless, IfOk, IfSome, Some, OnOk, OnErr, slice_get};
+ghost use Rattle.std.specs.Option.{option_map};
 ghost use Rattle.script.specs.Addresses.{address_of};
 ghost use Rattle.script.specs.Cuts.{trimmed, first_word, past_word, next_word};
-ghost use Rattle.std.specs.Option.{option_map};
 ghost use Rattle.script.specs.Quotes.{meaning, bytes_of};
 
 use crate::address::read_address;
