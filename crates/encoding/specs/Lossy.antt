@@ -17,6 +17,7 @@ lossy_past k [] = []
 lossy_past (suc k) (b ∷ bs) = lossy_past k bs
 lossy_past zero (b ∷ bs) = shown (b ∷ bs) ++ lossy_past (length_of (front (b ∷ bs)) - 1) bs
 
+-- the text of some bytes, from the first of them on
 abbrev pub lossy : List ℕ → List ℕ
 lossy bytes = lossy_past 0 bytes
 

@@ -31,6 +31,7 @@ last_told (Some c) = c
 abbrev pub fault : Refusal → Option Verb → Option Reply → Fault
 fault n v last = record { refusal = n; verb = v; code = (last_told last).code; length = (last_told last).length }
 
+-- a refusal by the first questions, which speaks of no line and no reply
 abbrev pub refusal : Refusal → Fault
 refusal n = fault n None None
 
@@ -38,6 +39,7 @@ refusal n = fault n None None
 abbrev pub long_enough : Model → Desk → Bool
 long_enough m d = nat_le (limit_of m) (length d.reply) && (nat_le 8704 (length d.wide) && nat_le 4352 (length d.narrow))
 
+-- whether a session is greeted as a call wants it: greet not yet, the others already
 abbrev pub greeted_as : Bool → Bool → Bool
 greeted_as true b = b
 greeted_as false true = false
@@ -59,6 +61,7 @@ abbrev pub puts : Bool → List ℕ → Verb → Option Reply → Model → List
 puts true l v last m area = ends (Ok tt) (with_wire (put_of l m.wire) m) area
 puts false l v last m area = ends (Err (fault LinkFull (Some v) last)) m area
 
+-- what comes of a line: it is put, or it was not made
 abbrev pub performs : Result (List ℕ) Refusal → Verb → Option Reply → Model → List ℕ → Outcome (Result (Unit {0}) Fault)
 performs (Ok l) v last m area = puts (fits l m.wire) l v last m area
 performs (Err n) v last m area = ends (Err (fault n (Some v) last)) m area
@@ -72,9 +75,11 @@ abbrev pub hears : Option Verb → Model → List ℕ → Result Reply Unread �
 hears v m area (Ok c) rest = ends (Ok c) (with_wire (leaving rest m.wire) m) (laid (take c.length m.wire.coming) area)
 hears v m area (Err e) rest = ends (Err (fault_of v e)) (with_step false (with_wire (leaving rest m.wire) m)) (laid (take e.length m.wire.coming) area)
 
+-- the reply that the session would read next
 abbrev pub cut_of : Model → Cut
 cut_of m = reply Usual (limit_of m) m.wire.ending m.wire.coming
 
+-- what comes of reading a reply, in answer to a verb or to none
 unfoldable pub hear_of : Option Verb → Model → List ℕ → Outcome (Result Reply Fault)
 hear_of v m area = hears v m area (cut_of m).got (cut_of m).rest
 
@@ -86,6 +91,7 @@ expected_of ss v c = cond (expects ss c.code) (Ok c) (Err (fault UnexpectedStatu
 abbrev pub settled_by : ℕ → Model → Model
 settled_by code m = cond (preliminary code) (with_step false m) m
 
+-- what comes of the reply that settles a line
 abbrev pub settles : List Status → Verb → Reply → Model → List ℕ → Outcome (Result Reply Fault)
 settles ss v c m area = ends (expected_of ss (Some v) c) (settled_by c.code m) area
 
@@ -98,6 +104,7 @@ abbrev pub welcomes : Bool → Reply → Model → List ℕ → Outcome (Result 
 welcomes true c m area = ends (Ok c) (with_greeted true m) area
 welcomes false c m area = ends (Err (fault UnexpectedStatus None (Some c))) m area
 
+-- greet, past its questions: a reply, which is expected to be 220
 abbrev pub greeting_of : Model → List ℕ → Outcome (Result Reply Fault)
 greeting_of m area = next (hear_of None m area) (λ c. welcomes (expects (Ready ∷ []) c.code) c)
 
@@ -105,6 +112,7 @@ greeting_of m area = next (hear_of None m area) (λ c. welcomes (expects (Ready 
 abbrev pub password_of : List ℕ → Reply → Model → List ℕ → Outcome (Result Reply Fault)
 password_of password c m area = cond (c.code == status_code NeedPassword) (exchange_of Pass (Some password) (LoggedIn ∷ []) (Some c) m area) (ends (Ok c) m area)
 
+-- login, past its questions: USER, and what follows it
 abbrev pub logging_in : List ℕ → List ℕ → Model → List ℕ → Outcome (Result Reply Fault)
 logging_in user password m area = next (exchange_of User (Some user) (LoggedIn ∷ NeedPassword ∷ []) None m area) (password_of password)
 
@@ -122,6 +130,7 @@ verb_of (DoMkd path) = Mkd
 verb_of DoNoop = Noop
 verb_of DoQuit = Quit
 
+-- the argument of their line, if it has one
 abbrev pub argument_of : Plain (Bor (List ℕ)) → Option (List ℕ)
 argument_of (DoCwd path) = Some path.now
 argument_of DoCdup = None
@@ -131,6 +140,7 @@ argument_of (DoMkd path) = Some path.now
 argument_of DoNoop = None
 argument_of DoQuit = None
 
+-- the statuses by which they pass
 abbrev pub statuses_of : {T : Type 0} → Plain T → List Status
 statuses_of (DoCwd path) = RequestedFileActionOk ∷ []
 statuses_of DoCdup = CommandOk ∷ RequestedFileActionOk ∷ []
@@ -144,15 +154,19 @@ statuses_of DoQuit = Closing ∷ []
 abbrev pub greet_of : Model → Desk → Called (Result Reply Fault)
 greet_of m d = past (questions_of false m d) m d (greeting_of m d.reply)
 
+-- login: the questions, then USER and, if it is wanted, PASS
 abbrev pub login_of : List ℕ → List ℕ → Model → Desk → Called (Result Reply Fault)
 login_of user password m d = past (questions_of true m d) m d (logging_in user password m d.reply)
 
+-- a command of one line and one reply: the questions, then its line
 abbrev pub plain_of : Plain (Bor (List ℕ)) → Model → Desk → Called (Result Reply Fault)
 plain_of p m d = past (questions_of true m d) m d (exchange_of (verb_of p) (argument_of p) (statuses_of p) None m d.reply)
 
+-- rename: the questions, then RNFR and RNTO
 abbrev pub rename_of : List ℕ → List ℕ → Model → Desk → Called (Result Reply Fault)
 rename_of from to m d = past (questions_of true m d) m d (renaming from to m d.reply)
 
+-- transfer_type: the questions, then TYPE
 abbrev pub type_of : FileType → Model → Desk → Called (Result Reply Fault)
 type_of t m d = past (questions_of true m d) m d (exchange_of SetType (Some (type_text t)) (CommandOk ∷ []) None m d.reply)
 
@@ -160,5 +174,6 @@ type_of t m d = past (questions_of true m d) m d (exchange_of SetType (Some (typ
 abbrev pub offset_of : ℕ → Option ℕ
 offset_of n = cond (n == 0) None (Some n)
 
+-- resume: the offset is kept, and nothing is asked or sent
 abbrev pub resume_of : ℕ → Model → Model
 resume_of n m = with_restart (offset_of n) m

@@ -9,6 +9,7 @@ use Rattle.session.specs.declared.settings.Settings.{Settings}
 use Rattle.session.specs.declared.session.Record.{Record}
 use Rattle.session.specs.declared.session.Session.{Session}
 
+-- what a session is: what its link, carrier and encoding mean, and what it remembers
 pub record Model : Type 0 where
   pub wire : Wire
   pub deck : Deck
@@ -38,9 +39,11 @@ fresh st w d c = record {
   kept = record { settings = settled st; greeted = false; in_step = true; transfer_open = false; restart = None; completed = 0 };
 }
 
+-- three contents as what the areas hold
 abbrev pub desk : List ℕ → List ℕ → List ℕ → Desk
 desk reply wide narrow = record { reply = reply; wide = wide; narrow = narrow }
 
+-- the most bytes of one reply
 abbrev pub limit_of : Model → ℕ
 limit_of m = m.kept.settings.limit
 
@@ -48,14 +51,18 @@ limit_of m = m.kept.settings.limit
 abbrev pub with_wire : Wire → Model → Model
 with_wire w m = record m { wire = w }
 
+-- another record
 abbrev pub with_kept : Record → Model → Model
 with_kept k m = record m { kept = k }
 
+-- in step or not
 abbrev pub with_step : Bool → Model → Model
 with_step b m = with_kept (record m.kept { in_step = b }) m
 
+-- greeted or not
 abbrev pub with_greeted : Bool → Model → Model
 with_greeted b m = with_kept (record m.kept { greeted = b }) m
 
+-- another place for the next transfer to start
 abbrev pub with_restart : Option ℕ → Model → Model
 with_restart o m = with_kept (record m.kept { restart = o }) m

@@ -10,9 +10,11 @@ pub record Outcome (X : Type 0) : Type 0 where
   pub after : Model
   pub reply : List ℕ
 
+-- a piece that ends with an answer
 abbrev pub ends : {X : Type 0} → X → Model → List ℕ → Outcome X
 ends x m area = record { answer = x; after = m; reply = area }
 
+-- what follows an answer: the next piece, or the fault as it is
 abbrev pub chain : {X Y : Type 0} → Model → List ℕ → (X → Model → List ℕ → Outcome (Result Y Fault)) → Result X Fault → Outcome (Result Y Fault)
 chain m area k (Ok x) = k x m area
 chain m area k (Err e) = ends (Err e) m area
@@ -27,6 +29,7 @@ pub record Called (X : Type 0) : Type 0 where
   pub after : Model
   pub desk : Desk
 
+-- an area of zeros, as long as it was
 abbrev pub zeros : List ℕ → List ℕ
 zeros area = replicate (length area) 0
 

@@ -32,16 +32,20 @@ pub record Said : Type 0 where
   pub verb : Verb
   pub argument : Option (List ℕ)
 
+-- a command with an argument
 abbrev pub say : Verb → List ℕ → Said
 say v a = record { verb = v; argument = Some a }
 
+-- a command without one
 abbrev pub say_bare : Verb → Said
 say_bare v = record { verb = v; argument = None }
 
+-- the texts of some commands
 abbrev pub texts_of : List Said → List (List ℕ)
 texts_of [] = []
 texts_of (c ∷ cs) = text_of c.verb c.argument ∷ texts_of cs
 
+-- the command of one line that was asked for
 abbrev pub said_by : PlainCommand (Bor (List ℕ)) → Said
 said_by (DoCwd path) = say Cwd path.now
 said_by DoCdup = say_bare Cdup
@@ -61,11 +65,12 @@ one_of c (Ok (Some r)) = c ∷ []
 one_of c (Err e) = cond (unsent e) [] (c ∷ [])
 one_of c (Ok None) = []
 
--- the commands that a call of two lines had accepted, by the line that its fault speaks of
+-- whether a fault speaks of a command's line
 abbrev pub speaks_of : Option Verb → Said → Bool
 speaks_of None c = false
 speaks_of (Some v) c = bytes_eq (word v) (word c.verb)
 
+-- the commands that a call of two lines had accepted, by the line that its fault speaks of
 abbrev pub two_of : Said → Said → Fault → List Said
 two_of c d e = cond (speaks_of e.verb c) (cond (unsent e) [] (c ∷ [])) (cond (speaks_of e.verb d) (cond (unsent e) (c ∷ []) (c ∷ d ∷ [])) [])
 
@@ -75,6 +80,7 @@ LoginAccepts c d (Ok (Some r)) cs = (cs ≡ c ∷ []) ⊎ (cs ≡ c ∷ d ∷ []
 LoginAccepts c d (Err e) cs = cs ≡ two_of c d e
 LoginAccepts c d (Ok None) cs = ⊥
 
+-- of a rename: both where it passed, else by its fault
 abbrev pub RenameAccepts : Said → Said → Verdict → List Said → Type 0
 RenameAccepts c d (Ok (Some r)) cs = cs ≡ c ∷ d ∷ []
 RenameAccepts c d (Err e) cs = cs ≡ two_of c d e
@@ -89,16 +95,18 @@ Accepts (Rename from to) a cs = RenameAccepts (say Rnfr from.now) (say Rnto to.n
 Accepts (TransferType t) a cs = cs ≡ one_of (say SetType (type_text t)) a
 Accepts (Resume n) a cs = cs ≡ []
 
--- the reply that an answer hands out, if any: its code and length; or, at 13 to 16, why it is not finished, with its length.
--- A fault with length 0 speaks of no reply.
+-- whether a fault says why a reply is not finished: 13 to 16
 abbrev pub unfinished : Fault → Bool
 unfinished e = nat_le 13 (number_of e.refusal) && nat_le (number_of e.refusal) 16
 
+-- the reply that a fault tells of, if any: its code and length; or, at 13 to 16, why it is not finished, with its length.
+-- A fault with length 0 speaks of no reply.
 abbrev pub read_by : Fault → Option (Result Reply Unread)
 read_by e =
     cond (unfinished e) (Some (Err (record { why = e.refusal; length = e.length })))
     (cond (e.length == 0) None (Some (Ok (record { code = e.code; length = e.length }))))
 
+-- the reply that an answer hands out, if it hands one out
 abbrev pub handed : Verdict → Option (Result Reply Unread)
 handed (Ok (Some c)) = Some (Ok c)
 handed (Err e) = read_by e
@@ -108,6 +116,7 @@ handed (Ok None) = None
 abbrev pub Accepted : Tally → Tally → ℕ → Type 0
 Accepted t u n = (u.lines ≡ suc n) × (t.lines ≤ n)
 
+-- which lines are a call's own: those accepted in it, and for greet the greeting
 abbrev pub Own : Asked → Tally → Tally → ℕ → Type 0
 Own Greet t u n = n ≡ 0
 Own (Login user password) t u n = Accepted t u n

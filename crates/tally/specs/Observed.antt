@@ -42,9 +42,11 @@ lines_on l (b ∷ bs) = cond (b == 10) ((l ++ b ∷ []) ∷ lines_on [] bs) (lin
 abbrev pub grown : Wire → Wire → List ℕ
 grown v w = drop (length v.sent) w.sent
 
+-- the lines sent in a call
 abbrev pub lines_in : Seen → List (List ℕ)
 lines_in s = lines_on [] (grown s.before.wire s.after.wire)
 
+-- the lines sent in a run
 abbrev pub lines_all : List Seen → List (List ℕ)
 lines_all = flat_map lines_in
 
@@ -57,6 +59,7 @@ Wholes (l ∷ ls) = Whole l × Wholes ls
 abbrev pub texts : Code → List (List ℕ) → List (List ℕ)
 texts c = map (λ l. c.decode (unescape l))
 
+-- a mark for each line
 abbrev pub marked : List (List ℕ) → List Mark
 marked = map sent
 
@@ -66,6 +69,7 @@ greeting_by (Ok (Some c)) = greeting ∷ []
 greeting_by (Err e) = cond (nat_le (number_of e.refusal) 5) [] (greeting ∷ [])
 greeting_by (Ok None) = []
 
+-- the mark of a call besides its lines: only greet has one
 abbrev pub by_ask : Asked → Verdict → List Mark
 by_ask Greet a = greeting_by a
 by_ask (Login user password) a = []
@@ -74,9 +78,11 @@ by_ask (Rename from to) a = []
 by_ask (TransferType t) a = []
 by_ask (Resume n) a = []
 
+-- the marks of a call: its lines, and its greeting
 abbrev pub marks_of : Seen → List Mark
 marks_of s = marked (lines_in s) ++ by_ask s.ask s.answer
 
+-- the marks of a run
 abbrev pub marks_all : List Seen → List Mark
 marks_all = flat_map marks_of
 

@@ -16,10 +16,12 @@ use Rattle.tally.specs.Law.{Start, Lawful}
 use Rattle.tally.specs.Asked.{Asked, Verdict, Lengths}
 use Rattle.tally.specs.declared.calls.Call.{Call}
 
+-- a call's answer, where the call has a reply
 abbrev pub told : Result Reply Fault → Verdict
 told (Ok c) = Ok (Some c)
 told (Err e) = Err e
 
+-- the same with what the call leaves
 abbrev pub in_words : Called (Result Reply Fault) → Called Verdict
 in_words c = record { answer = told c.answer; after = c.after; desk = c.desk }
 
@@ -40,15 +42,19 @@ lend l d = record { reply = take (min l.reply (length d.reply)) d.reply; wide = 
 abbrev pub give_back : Lengths → Desk → Desk → Desk
 give_back l used d = record { reply = used.reply ++ drop (min l.reply (length d.reply)) d.reply; wide = used.wide ++ drop (min l.wide (length d.wide)) d.wide; narrow = used.narrow ++ drop (min l.narrow (length d.narrow)) d.narrow }
 
+-- a call made with the first bytes of each area
 unfoldable pub made_of : Call → Model → Desk → Called Verdict
 made_of k m d = ask_of k.ask m (lend k.lent d)
 
+-- what the whole areas hold after it
 abbrev pub areas_after : Call → Model → Desk → Desk
 areas_after k m d = give_back k.lent (made_of k m d).desk d
 
+-- what a session shows
 abbrev pub shows : Model → Shown
 shows m = record { wire = m.wire; kept = m.kept; carrier = m.deck.state }
 
+-- what is seen of a call
 abbrev pub seen_of : Call → Model → Desk → Seen
 seen_of k m d = record { ask = k.ask; answer = (made_of k m d).answer; before = shows m; after = shows (made_of k m d).after; front = (made_of k m d).desk.reply }
 
@@ -57,10 +63,12 @@ abbrev pub after_all : Model → Desk → List Call → Model
 after_all m d [] = m
 after_all m d (k ∷ ks) = after_all (made_of k m d).after (areas_after k m d) ks
 
+-- what the areas hold at the end
 abbrev pub areas_all : Model → Desk → List Call → Desk
 areas_all m d [] = d
 areas_all m d (k ∷ ks) = areas_all (made_of k m d).after (areas_after k m d) ks
 
+-- what is seen of the whole list
 abbrev pub seen_all : Model → Desk → List Call → List Seen
 seen_all m d [] = []
 seen_all m d (k ∷ ks) = seen_of k m d ∷ seen_all (made_of k m d).after (areas_after k m d) ks
@@ -69,6 +77,7 @@ seen_all m d (k ∷ ks) = seen_of k m d ∷ seen_all (made_of k m d).after (area
 abbrev pub row_of : Seen → Row
 row_of s = record { answer = s.answer; kept = s.after.kept; carrier = s.after.carrier }
 
+-- the rows of a run
 abbrev pub rows_of : List Seen → List Row
 rows_of = map row_of
 

@@ -16,6 +16,7 @@ pub record Given : Type 0 where
   pub got : Result Reply Unread
   pub bytes : List ℕ
 
+-- the tally: what it was told, what it has read and given out, and where it stands
 pub record Tally : Type 0 where
   -- the limit of a reply, and how the bytes end, as they were told
   pub limit : ℕ
@@ -30,6 +31,7 @@ pub record Tally : Type 0 where
   -- the bytes that no reply has taken
   pub left : List ℕ
 
+-- before anything is read
 abbrev pub start : ℕ → Ending → List ℕ → Tally
 start limit ending bytes = record { limit = limit; ending = ending; lines = 1; unsettled = []; given = []; broken = false; left = bytes }
 
@@ -54,6 +56,7 @@ abbrev pub settle : ℕ → Tally → Result Reply Unread → List ℕ → Tally
 settle n t (Ok c) rest = cond (preliminary c.code) (gives n (n ∷ t.unsettled) true (Ok c) rest t) (gives n t.unsettled false (Ok c) rest t)
 settle n t (Err e) rest = gives n (n ∷ t.unsettled) true (Err e) rest t
 
+-- a line more was sent
 abbrev pub one_more : Tally → Tally
 one_more t = record { limit = t.limit; ending = t.ending; lines = suc t.lines; unsettled = t.unsettled; given = t.given; broken = t.broken; left = t.left }
 
@@ -62,6 +65,7 @@ abbrev pub welcome : Tally → Result Reply Unread → List ℕ → Tally
 welcome t (Ok c) rest = gives 0 t.unsettled false (Ok c) rest t
 welcome t (Err e) rest = gives 0 t.unsettled true (Err e) rest t
 
+-- a mark read while the count holds
 abbrev pub live : Mark → Tally → Tally
 live (sent l) t = one_more (settle t.lines t (reads t).got (reads t).rest)
 live greeting t = welcome t (reads t).got (reads t).rest
@@ -70,6 +74,7 @@ live greeting t = welcome t (reads t).got (reads t).rest
 abbrev pub counts : Mark → Tally → Tally
 counts e t = cond t.broken t (live e t)
 
+-- some marks, one after another
 abbrev pub on : Tally → List Mark → Tally
 on t [] = t
 on t (e ∷ es) = on (counts e t) es
@@ -105,10 +110,12 @@ by_end NotListening = false
 by_end NotDialled = false
 by_end NoCaller = false
 
+-- a reply that was not finished, since the bytes ended
 abbrev pub short : Result Reply Unread → Bool
 short (Ok c) = false
 short (Err e) = by_end e.why
 
+-- whether the last reply given out was such a one
 abbrev pub cut_short : List Given → Bool
 cut_short [] = false
 cut_short (g ∷ gs) = short g.got
