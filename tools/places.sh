@@ -18,9 +18,9 @@ lines() {
         2) found '^ *(pub(\(crate\))? )?(fn|struct|enum|const) ' ;;
         3) found "(^|[ ':])(while|for|loop)\b.*\{\$|enumerate\(\)" | grep -vE '\bimpl\b' ;;
         4) found '^ *impl.* for |fn [a-z_]*(copy|equal|name|word|number|layer|code|letter|text|hex|readable|nothing|digit|yes)[a-z_]*[(<]| as (u8|u16|u32|u64|usize)\b' ;;
-        5) found '^ *requires|(reply|wide|narrow): &(mut )?\[u8\],|^ *(in_rows: bool|heap: Global),|\b(heap: Global|in_rows: bool), ' ;;
+        5) found '^ *requires|(reply|wide|narrow): &(mut )?\[u8\],|^ *(in_rows: bool|heap: Global),|\b(heap: Global|in_rows: bool), |account: Account' ;;
         6) found '(place|at|used|length|end|start|taken|stored|number): usize|let mut (place|at|used|length|end|start|taken|stored|number)\b|; 8\]|rows\[|\.insert\(' ;;
-        7) found '\bfn\(|\bdyn |\bFn(Mut|Once)?\(|if !?in_rows|match account' ;;
+        7) found '\bfn\(|\bdyn |\bFn(Mut|Once)?\(|if !?in_rows|(match|if) account\b' ;;
         8) git ls-tree -r --name-only "$commit" | grep -E 'proofs/.*\.antt$' ;;
     esac
 }
