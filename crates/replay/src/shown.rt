@@ -77,7 +77,7 @@ pub fn unended(line: &[u8]) -> &[u8] {
     }
 }
 
-// The word by which a script makes the call. No `Display`, since `Ask` is another crate's, and the script's table reads the other way.
+// The word by which a script makes the call. No `Display`, since `Ask` is another crate's; the script's table reads the other way.
 pub fn call_name<T>(ask: &Ask<T>) -> &'static str {
     match ask {
         Ask::Greet => "greet",

@@ -33,7 +33,8 @@ fn next_byte<L: Link>(link: &mut L, stored: usize, verb: Option<Verb>) -> Result
 
 // Reads on to the end of a line, a byte at a time, and answers where in the area it ends. A byte that comes when the area is
 // full is taken from the link, and the reply is too long.
-// Places in the area, since the reply must lie whole at its front.
+// Places in the area, since the reply must lie whole at its front. Link, area and verb are no struct: with loans in it, each
+// contract would have to say that they are still the same.
 fn read_line<L: Link>(
     link: &mut L,
     area: &mut [u8],

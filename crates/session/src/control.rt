@@ -106,6 +106,7 @@ impl<L: Link, C: Carrier, E: Encoding> Session<L, C, E> {
     }
 
     // Reads one reply. One that is not finished leaves the session out of step.
+    // That the settings stay is said apart, here, of `settle` and of `exchange`, since the next piece asks it of its areas.
     pub(crate) fn hear(
         &mut self,
         verb: Option<Verb>,
