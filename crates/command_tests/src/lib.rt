@@ -27,8 +27,8 @@ impl Encoding for AsIs {
 mod tests {
     use super::*;
     use command::{
-        Command, FileType, FormatControl, Layer, Refusal, Verb, encode_line, escape_telnet_iac,
-        unescape_telnet_iac,
+        Command, Fault, FileType, FormatControl, Layer, Refusal, Verb, encode_line,
+        escape_telnet_iac, unescape_telnet_iac,
     };
     use std::process::Abort;
     use std::test::Fail;
@@ -130,6 +130,37 @@ mod tests {
         assert_eq!(rt; Refusal::LinkBroken.layer(), Layer::Link);
         assert_eq!(rt; Refusal::TableFull.layer(), Layer::Reply);
         assert_eq!(rt; Refusal::NotListening.layer(), Layer::Carrier);
+    }
+
+    // The numbers that a session's calls answer so far.
+    #[test]
+    fn faults_have_the_numbers_of_their_refusals(rt: HostRuntime) {
+        let numbers = [
+            (1, Refusal::AreaTooShort),
+            (2, Refusal::OutOfStep),
+            (3, Refusal::GreetingDue),
+            (6, Refusal::ArgumentTooLong),
+            (7, Refusal::ArgumentNotUtf8),
+            (8, Refusal::ArgumentNotOneLine),
+            (9, Refusal::NoEncoding),
+            (10, Refusal::LineNotEnded),
+            (11, Refusal::LineNotOne),
+            (12, Refusal::LinkFull),
+            (13, Refusal::LinkClosed),
+            (14, Refusal::LinkBroken),
+            (15, Refusal::ReplyTooLong),
+            (16, Refusal::ReplyIllBegun),
+            (17, Refusal::UnexpectedStatus),
+        ];
+        for (number, refusal) in numbers {
+            let fault = Fault {
+                refusal,
+                verb: None,
+                code: 0,
+                length: 0,
+            };
+            assert_eq!(rt; fault.number(), number);
+        }
     }
 
     #[test]

@@ -10,7 +10,7 @@ use tally::{Ask, Call, make};
 
 pub type Played<'a, 'b> = Session<Buffers<'a>, HostScript<'b>, Utf8Encoding>;
 
-// For whom it is told what happened. A value and no type parameter, since it is chosen while the program's words are read.
+// For whom it is told what happened. A type parameter would be no plainer, since the program's words choose it one by one.
 #[derive(Clone, Copy, PartialEq, Eq)]
 pub enum Account {
     People,

@@ -35,12 +35,18 @@ impl fmt::Display for Readable<'_> {
         match std::str::from_utf8(self.0) {
             Ok(text) => {
                 for letter in text.chars() {
-                    write_letter(f, letter, letter >= ' ' && letter != '\u{7f}')?;
+                    match letter {
+                        '\0'..='\u{1f}' | '\u{7f}' => write_escaped(f, u32::from(letter))?,
+                        _ => f.write_char(letter)?,
+                    }
                 }
             }
             Err(_) => {
                 for byte in self.0 {
-                    write_letter(f, char::from(*byte), matches!(*byte, b' '..=b'~'))?;
+                    match byte {
+                        b' '..=b'~' => f.write_char(char::from(*byte))?,
+                        _ => write_escaped(f, u32::from(*byte))?,
+                    }
                 }
             }
         }
@@ -48,15 +54,7 @@ impl fmt::Display for Readable<'_> {
     }
 }
 
-fn write_letter<W: fmt::Write>(
-    f: &mut fmt::Formatter<W>,
-    letter: char,
-    readable: bool,
-) -> fmt::Result {
-    if readable {
-        return f.write_char(letter);
-    }
-    let code = u32::from(letter);
+fn write_escaped<W: fmt::Write>(f: &mut fmt::Formatter<W>, code: u32) -> fmt::Result {
     write!(f, "\\x{code:02x}")
 }
 

@@ -61,7 +61,7 @@ abbrev pub puts : Bool → List ℕ → Verb → Option Reply → Model → List
 puts true l v last m area = ends (Ok tt) (with_wire (put_of l m.wire) m) area
 puts false l v last m area = ends (Err (fault LinkFull (Some v) last)) m area
 
--- what comes of a line: it is put, or it was not made
+-- what comes of a line: one that was made is put if it fits, and else refused, as is one that was not made
 abbrev pub performs : Result (List ℕ) Refusal → Verb → Option Reply → Model → List ℕ → Outcome (Result (Unit {0}) Fault)
 performs (Ok l) v last m area = puts (fits l m.wire) l v last m area
 performs (Err n) v last m area = ends (Err (fault n (Some v) last)) m area

@@ -14,7 +14,8 @@ use encoding::Encoding;
 use link::Link;
 use reply::{Reply, Status};
 
-// Each call spells out its frame: with the step as a closure, the frame's contract is longer than the lines that it saves.
+// Each call spells out its frame: with the step as a closure, the frame's contract is longer than the lines that it saves, and
+// a closure that holds a `Plain` promises nothing.
 impl<L: Link, C: Carrier, E: Encoding> Session<L, C, E> {
     fn read_greeting(&mut self, areas: &mut Areas<&mut [u8]>) -> Result<Reply, Fault>
         requires { self.old.kept.settings.limit ≤ length areas.old.reply.now }

@@ -106,7 +106,7 @@ impl<L: Link, C: Carrier, E: Encoding> Session<L, C, E> {
     }
 
     // Reads one reply. One that is not finished leaves the session out of step.
-    // That the settings stay is said apart, here, of `settle` and of `exchange`, since the next piece asks it of its areas.
+    // That the settings stay is one equation here, in `settle` and in `exchange`: a name for it would be no plainer.
     pub(crate) fn hear(
         &mut self,
         verb: Option<Verb>,

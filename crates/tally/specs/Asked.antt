@@ -12,7 +12,7 @@ use Rattle.tally.specs.declared.calls.Ask.TheVariants.{Greet, Login, Plain, Rena
 abbrev pub Asked : Type 0
 Asked = Ask (Bor (List ℕ))
 
--- how many bytes of each area are lent
+-- how many bytes of each area a call asks to be lent
 abbrev pub Lengths : Type 0
 Lengths = Areas ℕ
 

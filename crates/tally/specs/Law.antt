@@ -100,7 +100,7 @@ abbrev pub unfinished : Fault → Bool
 unfinished e = nat_le 13 (number_of e.refusal) && nat_le (number_of e.refusal) 16
 
 -- the reply that a fault tells of, if any: its code and length; or, at 13 to 16, why it is not finished, with its length.
--- A fault with length 0 speaks of no reply.
+-- Any other fault with length 0 speaks of no reply.
 abbrev pub read_by : Fault → Option (Result Reply Unread)
 read_by e =
     cond (unfinished e) (Some (Err (record { why = e.refusal; length = e.length })))
@@ -112,11 +112,11 @@ handed (Ok (Some c)) = Some (Ok c)
 handed (Err e) = read_by e
 handed (Ok None) = None
 
--- a call's own line, between the tallies before and after it: the last that it had accepted, and in greet the greeting
+-- a call's own line, between the tallies before and after it: the last that it had accepted
 abbrev pub Accepted : Tally → Tally → ℕ → Type 0
 Accepted t u n = (u.lines ≡ suc n) × (t.lines ≤ n)
 
--- which lines are a call's own: those accepted in it, and for greet the greeting
+-- which line is a call's own: the last accepted in it; for greet the greeting's, 0; for resume none
 abbrev pub Own : Asked → Tally → Tally → ℕ → Type 0
 Own Greet t u n = n ≡ 0
 Own (Login user password) t u n = Accepted t u n
