@@ -6,7 +6,7 @@ use Rattle.session.specs.Model.{Model, Desk}
 use Rattle.session.specs.declared.session.Record.{Record}
 use Rattle.tally.specs.declared.calls.Row.{Row}
 use Rattle.tally.specs.Runs.{made_of, areas_after, seen_of, after_all, areas_all, seen_all, row_of, rows_of, noted}
-use Rattle.tally.specs.Asked.{Verdict}
+use Rattle.tally.specs.Asked.{Answer}
 use Rattle.tally.specs.declared.calls.Call.{Call}
 
 -- one call more of a list: the session after it, the areas, and what is seen
@@ -45,7 +45,7 @@ driven_none m d calls old = record { within = omega arith; state = refl; lent = 
 
 module _ {m : Model} {d : Desk} {calls : List Call} {old : List Row} {i : ℕ} {now : Model} {areas : Desk} {rows : List Row} (h : Driven m d calls old i now areas rows) where
   -- one call more, at any default of `get_or`, and its row
-  driven_more : (default : Call) {next : Model} {areas₁ : Desk} {v : Verdict} {kept : Record} {carrier : CarrierState} → i < length calls → v ≡ (made_of (get_or calls i default) now areas).answer → next ≡ (made_of (get_or calls i default) now areas).after → areas₁ ≡ areas_after (get_or calls i default) now areas → kept ≡ next.kept → carrier ≡ next.deck.state → Driven m d calls old (i + 1) next areas₁ (set rows i (record { answer = v; kept = kept; carrier = carrier }))
+  driven_more : (default : Call) {next : Model} {areas₁ : Desk} {v : Answer} {kept : Record} {carrier : CarrierState} → i < length calls → v ≡ (made_of (get_or calls i default) now areas).answer → next ≡ (made_of (get_or calls i default) now areas).after → areas₁ ≡ areas_after (get_or calls i default) now areas → kept ≡ next.kept → carrier ≡ next.deck.state → Driven m d calls old (i + 1) next areas₁ (set rows i (record { answer = v; kept = kept; carrier = carrier }))
   driven_more default {next} {areas₁} {v} {kept} {carrier} inside answer after lent keeps state =
       let k : Call = get_or calls i default in
       let pushed : take (i + 1) calls ≡ take i calls ++ (k ∷ []) = take_more calls i default inside in
@@ -70,7 +70,7 @@ module _ {m : Model} {d : Desk} {calls : List Call} {old : List Row} {i : ℕ} {
       }
 
   -- the same, where the rows after are known by an equation
-  pub driven_noted : (default : Call) {next : Model} {areas₁ : Desk} {v : Verdict} {kept : Record} {carrier : CarrierState} {rows₁ : List Row} → rows₁ ≡ set rows i (record { answer = v; kept = kept; carrier = carrier }) → i < length calls → v ≡ (made_of (get_or calls i default) now areas).answer → next ≡ (made_of (get_or calls i default) now areas).after → areas₁ ≡ areas_after (get_or calls i default) now areas → kept ≡ next.kept → carrier ≡ next.deck.state → Driven m d calls old (i + 1) next areas₁ rows₁
+  pub driven_noted : (default : Call) {next : Model} {areas₁ : Desk} {v : Answer} {kept : Record} {carrier : CarrierState} {rows₁ : List Row} → rows₁ ≡ set rows i (record { answer = v; kept = kept; carrier = carrier }) → i < length calls → v ≡ (made_of (get_or calls i default) now areas).answer → next ≡ (made_of (get_or calls i default) now areas).after → areas₁ ≡ areas_after (get_or calls i default) now areas → kept ≡ next.kept → carrier ≡ next.deck.state → Driven m d calls old (i + 1) next areas₁ rows₁
   driven_noted default {next} {areas₁} noting inside answer after lent keeps state = subst (Driven m d calls old (i + 1) next areas₁) (sym noting) (driven_more default inside answer after lent keeps state)
 
   -- all of them

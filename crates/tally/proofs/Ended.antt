@@ -21,15 +21,15 @@ use Rattle.tally.specs.Runs.{told, in_words}
 use Rattle.tally.proofs.Tallies.{never, with_more, none_more}
 use Rattle.tally.proofs.Logic.{Spoken, Tied, Does}
 use Rattle.tally.proofs.Refusals.{Early, read_early}
-use Rattle.tally.specs.Asked.{Asked, Verdict}
+use Rattle.tally.specs.Asked.{Asked, Answer}
 
 -- at its end, from the tally t₀ where it began: the commands that it had accepted, and the reply that it hands out
-pub record Ended (ask : Asked) (t₀ : Tally) (a : Verdict) (saids : List Said) (area : List ℕ) (t : Tally) : Type 0 where
+pub record Ended (ask : Asked) (t₀ : Tally) (a : Answer) (saids : List Said) (area : List ℕ) (t : Tally) : Type 0 where
   pub accepts : Accepts ask a saids
   pub newest : Newest t₀ t (Own ask t₀ t) (handed a) area
 
 -- the whole call: the marks that can be observed of it are its lines and what its answer says
-pub record Moved (c : Code) (ask : Asked) (m : Model) (t : Tally) (o : Called Verdict) : Type 0 where
+pub record Moved (c : Code) (ask : Asked) (m : Model) (t : Tally) (o : Called Answer) : Type 0 where
   pub now : Tally
   pub saids : List Said
   pub lines : List (List ℕ)
@@ -59,7 +59,7 @@ moved_by c ask m t d o e does = record {
 }
 
 -- a call that sends and takes nothing, and of which nothing is observed
-pub moved_none : (c : Code) (ask : Asked) (m : Model) (t : Tally) (a : Verdict) (n : Model) (d : Desk) → by_ask ask a ≡ [] → n.wire ≡ m.wire → Tied c n t → Ended ask t a [] d.reply t → Moved c ask m t (record { answer = a; after = n; desk = d })
+pub moved_none : (c : Code) (ask : Asked) (m : Model) (t : Tally) (a : Answer) (n : Model) (d : Desk) → by_ask ask a ≡ [] → n.wire ≡ m.wire → Tied c n t → Ended ask t a [] d.reply t → Moved c ask m t (record { answer = a; after = n; desk = d })
 moved_none c ask m t a n d e same tied post = record {
   now = t;
   saids = [];

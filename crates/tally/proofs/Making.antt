@@ -3,13 +3,13 @@ use Rattle.std.proofs.Common.{◌≡◌, ℕ, ◌-◌, min, List, ◌++◌, leng
 use Rattle.session.specs.Model.{Model, Desk, desk}
 use Rattle.session.specs.Outcome.{Called}
 use Rattle.tally.specs.Runs.{ask_of, lend, give_back, made_of, areas_after}
-use Rattle.tally.specs.Asked.{Verdict}
+use Rattle.tally.specs.Asked.{Answer}
 use Rattle.tally.specs.declared.calls.Call.{Call}
 
 front : (n k : ℕ) (xs : List ℕ) → n ≡ k → take (n - 0) xs ≡ take k xs
 front n k xs e = let h : n - 0 ≡ k = omega arith in ap (λ z. take z xs) h
 
-module _ (k : Call) (m : Model) (d : Desk) (r w n : ℕ) (reply : r ≡ min k.lent.reply (length d.reply)) (wide : w ≡ min k.lent.wide (length d.wide)) (narrow : n ≡ min k.lent.narrow (length d.narrow)) (o : Called Verdict) (is : o ≡ ask_of k.ask m (desk (take (r - 0) d.reply) (take (w - 0) d.wide) (take (n - 0) d.narrow))) where
+module _ (k : Call) (m : Model) (d : Desk) (r w n : ℕ) (reply : r ≡ min k.lent.reply (length d.reply)) (wide : w ≡ min k.lent.wide (length d.wide)) (narrow : n ≡ min k.lent.narrow (length d.narrow)) (o : Called Answer) (is : o ≡ ask_of k.ask m (desk (take (r - 0) d.reply) (take (w - 0) d.wide) (take (n - 0) d.narrow))) where
   lent : desk (take (r - 0) d.reply) (take (w - 0) d.wide) (take (n - 0) d.narrow) ≡ lend k.lent d
   lent =
       ap (λ z. desk z (take (w - 0) d.wide) (take (n - 0) d.narrow)) (front r _ d.reply reply)

@@ -26,7 +26,7 @@ use Rattle.tally.proofs.Refusals.{last_read}
 use Rattle.tally.proofs.Pieces.{Sofar, Settled, Exchanged, does_exchange}
 use Rattle.tally.proofs.Ended.{Ended, Moved, moved_by, moved_none, moved-past}
 use Rattle.tally.proofs.Greeting.{greet_moves}
-use Rattle.tally.specs.Asked.{Asked, Verdict}
+use Rattle.tally.specs.Asked.{Asked, Answer}
 
 -- where a call begins, no reply was read in it
 begins : (t : Tally) (area : List ℕ) → Sofar t t (last_read (last_told None)) area
@@ -37,15 +37,15 @@ last_sofar : (t₀ t : Tally) (c : Reply) (area : List ℕ) → last_read c ≡ 
 last_sofar t₀ t c area e h = subst (λ r. Sofar t₀ t r area) (sym e) h
 
 -- what a call by lines comes to, from where it began: A says by its answer which commands were accepted
-abbrev Through : (Verdict → List Said → Type 0) → Tally → Result Reply Fault → List Said → List ℕ → Tally → Type 0
+abbrev Through : (Answer → List Said → Type 0) → Tally → Result Reply Fault → List Said → List ℕ → Tally → Type 0
 Through A t₀ r saids area t = A (told r) saids × Sofar t₀ t (handed (told r)) area
 
 -- a call by lines, behind its first questions
-by_lines : (code : Code) (ask : Asked) (m : Model) (t : Tally) (d : Desk) (o : Outcome (Result Reply Fault)) (A : Verdict → List Said → Type 0) → by_ask ask (told o.answer) ≡ [] → ((r : Result Reply Fault) (saids : List Said) (area : List ℕ) (u : Tally) → Through A t r saids area u → Ended ask t (told r) saids area u) → Tied code m t → (t.broken ≡ false → Does code m t o (Through A t)) → Moved code ask m t (in_words (past (questions_of true m d) m d o))
+by_lines : (code : Code) (ask : Asked) (m : Model) (t : Tally) (d : Desk) (o : Outcome (Result Reply Fault)) (A : Answer → List Said → Type 0) → by_ask ask (told o.answer) ≡ [] → ((r : Result Reply Fault) (saids : List Said) (area : List ℕ) (u : Tally) → Through A t r saids area u → Ended ask t (told r) saids area u) → Tied code m t → (t.broken ≡ false → Does code m t o (Through A t)) → Moved code ask m t (in_words (past (questions_of true m d) m d o))
 by_lines code ask m t d o A unmarked ends tied does = moved-past code ask true m t d o tied (λ e. moved_by code ask m t d o unmarked (does_weaken code (Through A t) (λ r. Ended ask t (told r)) m t o ends (does e)))
 
 -- a call of one line
-abbrev One : Said → Verdict → List Said → Type 0
+abbrev One : Said → Answer → List Said → Type 0
 One s a saids = saids ≡ one_of s a
 
 -- its line and reply

@@ -20,7 +20,7 @@ use Rattle.tally.proofs.Tallies.{never, with_more, goes_on}
 use Rattle.tally.proofs.Logic.{Spoken, Tied}
 use Rattle.tally.proofs.Ended.{Moved}
 use Rattle.tally.proofs.Moves.{moves}
-use Rattle.tally.specs.Asked.{Verdict}
+use Rattle.tally.specs.Asked.{Answer}
 use Rattle.tally.specs.declared.calls.Call.{Call}
 
 -- what is gathered of a list with one more behind it
@@ -83,7 +83,7 @@ module _ (s : Start) (back : Back s.code) where
     -- one call after the others
     along_more : (ss : List Seen) → Along s m ss t → Along s (made_of k m d).after (ss ++ (seen_of k m d ∷ [])) moved.now
     along_more ss h =
-        let o : Called Verdict = made_of k m d in
+        let o : Called Answer = made_of k m d in
         record {
           bytes = h.bytes ++ moved.took;
           coming = h.coming ∙ ap (λ z. h.bytes ++ z) moved.coming ∙ sym (append_assoc h.bytes moved.took o.after.wire.coming);

@@ -13,12 +13,12 @@ abbrev pub Asked : Type 0
 Asked = Ask (Bor (List ℕ))
 
 -- how many bytes of each area a call asks to be lent
-abbrev pub Lengths : Type 0
-Lengths = Areas ℕ
+abbrev pub Lent : Type 0
+Lent = Areas ℕ
 
 -- the reply, of a call that has one; or a fault
-abbrev pub Verdict : Type 0
-Verdict = Result (Option Reply) Fault
+abbrev pub Answer : Type 0
+Answer = Result (Option Reply) Fault
 
 -- what is asked, with other texts
 abbrev pub ask_map : {A B : Type 0} → (A → B) → Ask A → Ask B

@@ -19,7 +19,7 @@ use Rattle.std.specs.Str.{bytes_eq}
 use Rattle.tally.specs.declared.calls.Ask.TheVariants.{Greet, Login, Plain, Rename, TransferType, Resume}
 use Rattle.tally.specs.Observed.{Shown, Seen, lines_in, lines_all, Wholes, texts, marks_all, taken, shown_after}
 use Rattle.tally.specs.Tally.{Given, Tally, tally, cut_short}
-use Rattle.tally.specs.Asked.{Asked, Verdict}
+use Rattle.tally.specs.Asked.{Asked, Answer}
 
 -- where a run starts: what the session shows when it is new, its encoding, and the limit of a reply
 pub record Start : Type 0 where
@@ -60,7 +60,7 @@ abbrev pub unsent : Fault → Bool
 unsent e = nat_le (number_of e.refusal) 12
 
 -- the commands that a call of one line had accepted, by its answer
-abbrev pub one_of : Said → Verdict → List Said
+abbrev pub one_of : Said → Answer → List Said
 one_of c (Ok (Some r)) = c ∷ []
 one_of c (Err e) = cond (unsent e) [] (c ∷ [])
 one_of c (Ok None) = []
@@ -75,19 +75,19 @@ abbrev pub two_of : Said → Said → Fault → List Said
 two_of c d e = cond (speaks_of e.verb c) (cond (unsent e) [] (c ∷ [])) (cond (speaks_of e.verb d) (cond (unsent e) (c ∷ []) (c ∷ d ∷ [])) [])
 
 -- a login passes after one line or after two
-abbrev pub LoginAccepts : Said → Said → Verdict → List Said → Type 0
+abbrev pub LoginAccepts : Said → Said → Answer → List Said → Type 0
 LoginAccepts c d (Ok (Some r)) cs = (cs ≡ c ∷ []) ⊎ (cs ≡ c ∷ d ∷ [])
 LoginAccepts c d (Err e) cs = cs ≡ two_of c d e
 LoginAccepts c d (Ok None) cs = ⊥
 
 -- of a rename: both where it passed, else by its fault
-abbrev pub RenameAccepts : Said → Said → Verdict → List Said → Type 0
+abbrev pub RenameAccepts : Said → Said → Answer → List Said → Type 0
 RenameAccepts c d (Ok (Some r)) cs = cs ≡ c ∷ d ∷ []
 RenameAccepts c d (Err e) cs = cs ≡ two_of c d e
 RenameAccepts c d (Ok None) cs = ⊥
 
 -- the commands that a call had accepted
-abbrev pub Accepts : Asked → Verdict → List Said → Type 0
+abbrev pub Accepts : Asked → Answer → List Said → Type 0
 Accepts Greet a cs = cs ≡ []
 Accepts (Login user password) a cs = LoginAccepts (say User user.now) (say Pass password.now) a cs
 Accepts (Plain p) a cs = cs ≡ one_of (said_by p) a
@@ -107,7 +107,7 @@ read_by e =
     (cond (e.length == 0) None (Some (Ok (record { code = e.code; length = e.length }))))
 
 -- the reply that an answer hands out, if it hands one out
-abbrev pub handed : Verdict → Option (Result Reply Unread)
+abbrev pub handed : Answer → Option (Result Reply Unread)
 handed (Ok (Some c)) = Some (Ok c)
 handed (Err e) = read_by e
 handed (Ok None) = None

@@ -10,7 +10,7 @@ use Rattle.command.specs.Refusals.{number_of}
 use Rattle.carrier.specs.declared.carrier.CarrierState.{CarrierState}
 use Rattle.session.specs.declared.session.Record.{Record}
 use Rattle.tally.specs.declared.calls.Ask.TheVariants.{Greet, Login, Plain, Rename, TransferType, Resume}
-use Rattle.tally.specs.Asked.{Asked, Verdict}
+use Rattle.tally.specs.Asked.{Asked, Answer}
 
 -- what a session shows: what its link means, what it remembers, and its carrier's state
 pub record Shown : Type 0 where
@@ -21,7 +21,7 @@ pub record Shown : Type 0 where
 -- one call of a run; `front` is what the reply area holds that it was lent
 pub record Seen : Type 0 where
   pub ask : Asked
-  pub answer : Verdict
+  pub answer : Answer
   pub before : Shown
   pub after : Shown
   pub front : List ℕ
@@ -64,13 +64,13 @@ abbrev pub marked : List (List ℕ) → List Mark
 marked = map sent
 
 -- a greet passed its first questions unless its number is up to 5
-abbrev pub greeting_by : Verdict → List Mark
+abbrev pub greeting_by : Answer → List Mark
 greeting_by (Ok (Some c)) = greeting ∷ []
 greeting_by (Err e) = cond (nat_le (number_of e.refusal) 5) [] (greeting ∷ [])
 greeting_by (Ok None) = []
 
 -- the mark of a call besides its lines: only greet has one
-abbrev pub by_ask : Asked → Verdict → List Mark
+abbrev pub by_ask : Asked → Answer → List Mark
 by_ask Greet a = greeting_by a
 by_ask (Login user password) a = []
 by_ask (Plain p) a = []

@@ -13,20 +13,20 @@ use Rattle.tally.specs.declared.calls.Ask.TheVariants.{Greet, Login, Plain, Rena
 use Rattle.tally.specs.declared.calls.Row.{Row}
 use Rattle.tally.specs.Observed.{Shown, Seen}
 use Rattle.tally.specs.Law.{Start, Lawful}
-use Rattle.tally.specs.Asked.{Asked, Verdict, Lengths}
+use Rattle.tally.specs.Asked.{Asked, Answer, Lent}
 use Rattle.tally.specs.declared.calls.Call.{Call}
 
 -- a call's answer, where the call has a reply
-abbrev pub told : Result Reply Fault → Verdict
+abbrev pub told : Result Reply Fault → Answer
 told (Ok c) = Ok (Some c)
 told (Err e) = Err e
 
 -- the same with what the call leaves
-abbrev pub in_words : Called (Result Reply Fault) → Called Verdict
+abbrev pub in_words : Called (Result Reply Fault) → Called Answer
 in_words c = record { answer = told c.answer; after = c.after; desk = c.desk }
 
 -- one call with the areas that it is lent
-abbrev pub ask_of : Asked → Model → Desk → Called Verdict
+abbrev pub ask_of : Asked → Model → Desk → Called Answer
 ask_of Greet m d = in_words (greet_of m d)
 ask_of (Login user password) m d = in_words (login_of user.now password.now m d)
 ask_of (Plain p) m d = in_words (plain_of p m d)
@@ -35,15 +35,15 @@ ask_of (TransferType t) m d = in_words (type_of t m d)
 ask_of (Resume n) m d = record { answer = Ok None; after = resume_of n m; desk = d }
 
 -- of each area the first bytes, as many as the call asks to be lent, or all where there are fewer
-abbrev pub lend : Lengths → Desk → Desk
+abbrev pub lend : Lent → Desk → Desk
 lend l d = record { reply = take (min l.reply (length d.reply)) d.reply; wide = take (min l.wide (length d.wide)) d.wide; narrow = take (min l.narrow (length d.narrow)) d.narrow }
 
 -- and what the whole areas hold once they are given back
-abbrev pub give_back : Lengths → Desk → Desk → Desk
+abbrev pub give_back : Lent → Desk → Desk → Desk
 give_back l used d = record { reply = used.reply ++ drop (min l.reply (length d.reply)) d.reply; wide = used.wide ++ drop (min l.wide (length d.wide)) d.wide; narrow = used.narrow ++ drop (min l.narrow (length d.narrow)) d.narrow }
 
 -- a call made with the first bytes of each area
-unfoldable pub made_of : Call → Model → Desk → Called Verdict
+unfoldable pub made_of : Call → Model → Desk → Called Answer
 made_of k m d = ask_of k.ask m (lend k.lent d)
 
 -- what the whole areas hold after it
