@@ -1,5 +1,6 @@
 // A link over two borrowed buffers: one that is written to, and one with the bytes that come.
-ghost use Rattle.std.specs.Prelude.{◌≡◌, ◌-◌, ◌≤◌, length, drop};
+ghost use Rattle.std.specs.Prelude.{◌≡◌, ◌-◌, ◌≤◌, length, drop, min, IfOk, OnOk, OnErr};
+ghost use Rattle.link.specs.Wire.{put_of, put_answer, Pulled};
 
 use crate::link::Link;
 use crate::wire::{BrokenLink, Ending, FullLink};
@@ -49,11 +50,17 @@ impl<'a> Buffers<'a> {
 }
 
 impl Link for Buffers<'_> {
-    ghost use Rattle.link.specs.Buffered.{wire_of};
+    ghost use Rattle.link.specs.Buffered.{wire_of, written};
 
     ghost means = { wire_of };
 
-    fn put(&mut self, bytes: &[u8]) -> Result<(), FullLink> {
+    // What a link promises, and that the buffer stays as it was but for the bytes that are sent.
+    fn put(&mut self, bytes: &[u8]) -> Result<(), FullLink>
+        ensures value { result ≡ put_answer bytes.now (wire_of self.old) }
+        ensures after { wire_of self.new ≡ put_of bytes.now (wire_of self.old) }
+        ensures buffer { OnOk result (self.new.out.now ≡ written self.old.out.now self.old.used bytes.now) }
+        ensures kept { OnErr result (self.new.out.now ≡ self.old.out.now) }
+    {
         if bytes.len() > self.out.len() - self.used {
             return Err(FullLink);
         }
@@ -63,9 +70,20 @@ impl Link for Buffers<'_> {
         Ok(())
     }
 
-    fn pull(&mut self, area: &mut [u8]) -> Result<usize, BrokenLink> {
-        if self.ending == Ending::Broken && self.coming.is_empty() && !area.is_empty() {
-            return Err(BrokenLink);
+    // What a link promises, and that as many bytes are moved as are coming and have room.
+    fn pull(&mut self, area: &mut [u8]) -> Result<usize, BrokenLink>
+        ensures moves { Pulled (wire_of self.old) (wire_of self.new) area.old area.new result }
+        ensures most { IfOk result (λ count. count ≡ min (length self.old.coming.now) (length area.old)) }
+    {
+        // The two that move nothing go first: behind them a byte asked for alone is known to come, and is no call to copy.
+        if area.is_empty() {
+            return Ok(0);
+        }
+        if self.coming.is_empty() {
+            return match self.ending {
+                Ending::Closed => Ok(0),
+                Ending::Broken => Err(BrokenLink),
+            };
         }
         let count = self.coming.len().min(area.len());
         let (first, later) = self.coming.split_at(count);
