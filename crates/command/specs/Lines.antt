@@ -26,6 +26,10 @@ spaced (Some argument) = 32 ∷ argument
 abbrev pub text_of : Verb → Option (List ℕ) → List ℕ
 text_of verb argument = word verb ++ (spaced argument ++ 13 ∷ 10 ∷ [])
 
+-- whether a byte is sent once, since it is no 255
+abbrev pub single : ℕ → Bool
+single b = not (b == 255)
+
 -- each byte 255 doubled, as Telnet sends it
 abbrev pub escape : List ℕ → List ℕ
 escape [] = []

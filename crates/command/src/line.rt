@@ -94,7 +94,7 @@ fn make_line<E: Encoding>(
     command.validate_command_line()?;
     let length = command.format(wide).unwrap();
     let encoded = encode_text(encoding, &wide[..length], &mut narrow[..LONGEST_ENCODED])?;
-    Ok(write_front(Escaped(&narrow[..encoded]), wide).unwrap())
+    Ok(write_front(Escaped::of(&narrow[..encoded]), wide).unwrap())
 }
 
 // Makes the command's line as it goes over the wire, at the front of `wide`, and answers its length. The text is written

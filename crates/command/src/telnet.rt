@@ -1,8 +1,9 @@
 // Byte 255 doubled, as Telnet sends it, and made single again.
-ghost use Rattle.std.specs.Prelude.{◌≡◌, Some};
+ghost use Rattle.std.specs.Prelude.{◌≡◌, ◌+◌, ◌≤◌, ◌++◌, length, Some};
 ghost use Rattle.std.specs.Iterator.{item_count};
+ghost use Rattle.std.specs.List.{prefix_len};
 ghost use Rattle.text.specs.Area.{filled, Spells};
-ghost use Rattle.command.specs.Lines.{escape, unescape};
+ghost use Rattle.command.specs.Lines.{single, escape, unescape};
 
 use std::slice;
 use text::{Pieces, write_front};
@@ -10,22 +11,52 @@ use text::{Pieces, write_front};
 // Telnet's "interpret as command" byte, which stands for itself where it is doubled.
 const IAC: u8 = 255;
 
-// A line with each 255 doubled, which comes a byte or a pair at a time.
+// How many bytes stand before the first 255.
+fn run_length(line: &[u8]) -> usize
+    ensures value { result ≡ prefix_len single line.now }
+    ensures within { result ≤ length line.now }
+{
+    line.iter().take_while(|byte| **byte != IAC).count()
+}
+
+// A line with each 255 doubled, of which comes at a time a pair, or all that stands before the next 255: a line without any
+// is one piece, since to copy a byte by itself costs several times as much.
 #[derive(Clone, Copy)]
-pub(crate) struct Escaped<'a>(pub(crate) &'a [u8]);
+pub(crate) struct Escaped<'a> {
+    // What stands before the first 255. It is found once, and not anew when the pieces are measured and when they are written.
+    run: &'a [u8],
+    // What follows from that 255 on.
+    rest: &'a [u8],
+}
+
+impl<'a> Escaped<'a> {
+    #[tactic(auto, using(crate::proofs::Runs::run_first))]
+    pub(crate) fn of(line: &'a [u8]) -> Escaped<'a>
+        ensures doubled { result.run.now ++ escape result.rest.now ≡ escape line.now }
+        ensures within { length result.run.now + length result.rest.now ≡ length line.now }
+    {
+        let (run, rest) = line.split_at(run_length(line));
+        Escaped { run, rest }
+    }
+}
 
 impl<'a> Iterator for Escaped<'a> {
     type Item = &'a [u8];
 
-    ghost next_gives = { Spells (λ s. escape s.0.now) };
+    ghost next_gives = { Spells (λ s. s.run.now ++ escape s.rest.now) };
 
-    ghost remaining = { item_count (λ s. s.0.now) };
+    ghost remaining = { item_count (λ s. s.run.now ++ s.rest.now) };
 
     fn next(&mut self) -> Option<&'a [u8]> {
-        let [first, rest @ ..] = self.0 else {
+        let run = self.run;
+        if !run.is_empty() {
+            self.run = &[];
+            return Some(run);
+        }
+        let [first, behind @ ..] = self.rest else {
             return None;
         };
-        self.0 = rest;
+        *self = Escaped::of(behind);
         if *first == IAC {
             Some(&[IAC, IAC])
         } else {
@@ -35,7 +66,7 @@ impl<'a> Iterator for Escaped<'a> {
 }
 
 impl<'a> Pieces<'a> for Escaped<'a> {
-    ghost bytes = { λ s. escape s.0.now };
+    ghost bytes = { λ s. s.run.now ++ escape s.rest.now };
 
     ghost always = { λ _. tt };
 
@@ -82,7 +113,7 @@ impl<'a> Pieces<'a> for Unescaped<'a> {
 pub fn escape_telnet_iac(line: &[u8], area: &mut [u8]) -> Option<usize>
     ensures { record { answer = result; area = area.new } ≡ filled (Some (escape line.now)) area.old }
 {
-    write_front(Escaped(line), area)
+    write_front(Escaped::of(line), area)
 }
 
 // Collapses doubled IAC bytes, in pairs from the left; a lone one stays, for servers that send it literally. What results

@@ -1,6 +1,7 @@
-use Rattle.std.proofs.Common.{◌≤◌, refl, drop, length, ap, subst, sym, ◌∙◌, Err, arith, length-take}
+use Rattle.std.proofs.Common.{◌≤◌, refl, drop, length, ap, subst, sym, ◌∙◌, Some, Err, arith, length-take}
 use Rattle.std.specs.Option.{IsSome}
 use Rattle.std.proofs.lemmas.Result.{err_from_is_err_and}
+use Rattle.text.specs.Area.{filled}
 use Rattle.command.specs.Lines.{argument_of}
 use Rattle.command.proofs.Makes.{line_refused_early, line_from_text, told_is, told_short, line_written, short_as}
 use Rattle.command.proofs.line.make_line.Goals as goal
@@ -24,8 +25,9 @@ returns-clause-line g c =
     let n = c.in_ok-encoded.encoded in
     let inside : n ≤ length narrow = omega (arith, c.in_ok-encoded.ensures.within, c.encode_text.auto.narrow, length-take 4352 c.args.narrow.now, c.requires.narrow) in
     let room : 8704 ≤ length c.format.new.area = omega (arith, c.requires.wide, c.format.auto.area) in
+    let wrote = c.write_front.ensures ∙ ap (λ bytes. filled (Some bytes) c.format.new.area) c.of.ensures.doubled in
     let e = line_from_text (g.E.Encoding.means c.args.encoding.now) c.args.command.verb (argument_of c.args.command) _ _ _ _ _ c.in_ok-validate_command_line.ensures c.format.ensures c.unwrap-length.ensures in
-    line_written narrow rest _ _ n _ c.in_ok-encoded.ensures.within inside room c.write_front.ensures _ c.unwrap.ensures
+    line_written narrow rest _ _ n _ c.in_ok-encoded.ensures.within inside room wrote _ c.unwrap.ensures
     ∙ c.in_ok-encoded.ensures.line ∙ e
 
 pub unwrap-requires : goal.unwrap-requires
@@ -35,7 +37,8 @@ unwrap-requires g c =
     let n = c.in_ok-encoded.encoded in
     let inside : n ≤ length narrow = omega (arith, c.in_ok-encoded.ensures.within, c.encode_text.auto.narrow, length-take 4352 c.args.narrow.now, c.requires.narrow) in
     let room : 8704 ≤ length c.format.new.area = omega (arith, c.requires.wide, c.format.auto.area) in
-    subst IsSome (sym (told_is narrow rest _ _ n _ c.in_ok-encoded.ensures.within inside room c.write_front.ensures)) refl
+    let wrote = c.write_front.ensures ∙ ap (λ bytes. filled (Some bytes) c.format.new.area) c.of.ensures.doubled in
+    subst IsSome (sym (told_is narrow rest _ _ n _ c.in_ok-encoded.ensures.within inside room wrote)) refl
 
 pub returns-clause-within : goal.returns-clause-within
 returns-clause-within g c =
@@ -44,6 +47,7 @@ returns-clause-within g c =
     let n = c.in_ok-encoded.encoded in
     let inside : n ≤ length narrow = omega (arith, c.in_ok-encoded.ensures.within, c.encode_text.auto.narrow, length-take 4352 c.args.narrow.now, c.requires.narrow) in
     let room : 8704 ≤ length c.format.new.area = omega (arith, c.requires.wide, c.format.auto.area) in
-    let told = told_is narrow rest _ _ n _ c.in_ok-encoded.ensures.within inside room c.write_front.ensures in
-    let short = told_short narrow rest _ _ n _ c.in_ok-encoded.ensures.within inside room c.write_front.ensures in
+    let wrote = c.write_front.ensures ∙ ap (λ bytes. filled (Some bytes) c.format.new.area) c.of.ensures.doubled in
+    let told = told_is narrow rest _ _ n _ c.in_ok-encoded.ensures.within inside room wrote in
+    let short = told_short narrow rest _ _ n _ c.in_ok-encoded.ensures.within inside room wrote in
     short_as _ _ _ c.unwrap.ensures told short
