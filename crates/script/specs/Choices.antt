@@ -8,6 +8,8 @@ use Rattle.link.specs.declared.wire.Ending.{Ending}
 use Rattle.link.specs.declared.wire.Ending.TheVariants.{Closed, Broken}
 use Rattle.script.specs.declared.choice.EncodingName.{EncodingName}
 use Rattle.script.specs.declared.choice.EncodingName.TheVariants.{Utf8}
+use Rattle.script.specs.declared.error.Problem.{Problem}
+use Rattle.script.specs.declared.error.Problem.TheVariants.{MissingWord, UnknownChoice}
 use Rattle.session.specs.declared.settings.Mode.{Mode}
 use Rattle.session.specs.declared.settings.Mode.TheVariants.{Active, ExtendedPassive, Passive}
 use Rattle.std.specs.Str.{bytes_eq}
@@ -42,3 +44,8 @@ ending_of w = by_table ((codes "closed", Closed) ∷ ((codes "broken", Broken) �
 abbrev pub format_control_of : List ℕ → Option FormatControl
 format_control_of w =
     by_table ((codes "nonprint", NonPrint) ∷ ((codes "telnet", Telnet) ∷ ((codes "asa", Asa) ∷ []))) w
+
+-- Why no value comes of a word where one of several may stand: no word is there, or it is none of them.
+abbrev pub unchosen : List ℕ → Problem
+unchosen [] = MissingWord
+unchosen (c ∷ cs) = UnknownChoice

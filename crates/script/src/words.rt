@@ -1,8 +1,10 @@
 // The words of a line, one after another from the left.
-ghost use Rattle.std.specs.Prelude.{◌≡◌, ℕ, Ok, ◌≤◌, drop, length, ◌<◌, ◌↔◌, IsTrue, IsOkUnless, IfOk, IfSome, Some, OnOk, OnErr, slice_get};
+ghost use Rattle.std.specs.Prelude.{◌≡◌, ℕ, Ok, ◌≤◌, drop, length, ◌<◌, ◌↔◌, IsTrue, IsOkUnless, IfOk, IfErr, IfSome, IfNone, IsUtf8, None, Some, OnOk, OnErr, slice_get};
 ghost use Rattle.std.specs.Option.{option_map};
 ghost use Rattle.script.specs.Addresses.{address_of};
 ghost use Rattle.script.specs.Cuts.{trimmed, first_word, past_word, next_word};
+ghost use Rattle.script.specs.Choices.{unchosen};
+ghost use Rattle.script.specs.Numbers.{numeral_of};
 ghost use Rattle.script.specs.Quotes.{meaning, bytes_of};
 
 use crate::address::read_address;
@@ -54,6 +56,9 @@ impl<'a> Words<'a> {
     pub(crate) fn word(&mut self) -> Result<&'a [u8], Problem>
         ensures value { IfOk result (λ w. w.now ≡ first_word self.old.rest.now) }
         ensures after { OnOk result (self.new.rest.now ≡ past_word self.old.rest.now) }
+        ensures some { OnOk result (0 < length self.old.rest.now) }
+        ensures none { OnErr result (length self.old.rest.now ≡ 0) }
+        ensures problem { IsOkUnless result Problem.MissingWord }
     {
         if self.is_over() {
             return Err(Problem::MissingWord);
@@ -81,14 +86,20 @@ impl<'a> Words<'a> {
 
     // The next word as text. One that is not UTF-8 is none of the words of a script.
     pub(crate) fn name(&mut self) -> Result<Option<&'a str>, Problem>
-        ensures { IfOk result (λ n. IfSome n (λ t. t.now ≡ first_word self.old.rest.now)) }
+        ensures text { IfOk result (λ n. IfSome n (λ t. t.now ≡ first_word self.old.rest.now)) }
+        ensures broken { IfOk result (λ n. IfNone n (¬ (IsUtf8 (first_word self.old.rest.now)))) }
+        ensures some { OnOk result (0 < length self.old.rest.now) }
+        ensures none { OnErr result (length self.old.rest.now ≡ 0) }
+        ensures problem { IsOkUnless result Problem.MissingWord }
     {
         Ok(std::str::from_utf8(self.word()?).ok())
     }
 
     // A value by its name.
     pub(crate) fn choice<T: Named>(&mut self) -> Result<T, Problem>
-        ensures { IfOk result (λ v. T.named (first_word self.old.rest.now) ≡ Some v) }
+        ensures value { IfOk result (λ v. T.named (first_word self.old.rest.now) ≡ Some v) }
+        ensures unnamed { OnErr result (IsUtf8 (first_word self.old.rest.now) → 0 < length self.old.rest.now → T.named (first_word self.old.rest.now) ≡ None) }
+        ensures problem { IfErr result (λ p. p ≡ unchosen self.old.rest.now) }
     {
         self.name()?
             .and_then(|name| T::named(name))
@@ -120,7 +131,7 @@ impl<'a> Words<'a> {
     pub(crate) fn number<T: TryFrom<u64>>(&mut self, most: u64) -> Result<T, Problem>
     where
         T::Error: Drop,
-        ensures { IfOk result (λ t. (n : ℕ) × (n ≤ most) × T.try_from_gives n (Ok t)) }
+        ensures { IfOk result (λ t. (n : ℕ) × (numeral_of (first_word self.old.rest.now) ≡ Ok n) × (n ≤ most) × T.try_from_gives n (Ok t)) }
     {
         match read_number(self.word()?) {
             Ok(value) if value <= most => T::try_from(value).map_err(|_| Problem::NumberTooLarge(
