@@ -31,31 +31,41 @@ impl fmt::Display for Hex<'_> {
 pub struct Readable<'a>(pub &'a [u8]);
 
 impl fmt::Display for Readable<'_> {
+    // Written in runs, since a letter by itself costs several times as much. A run of text is text, since it ends at a
+    // byte of its own.
     fn fmt<W: fmt::Write>(&self, f: &mut fmt::Formatter<W>) -> fmt::Result {
-        match std::str::from_utf8(self.0) {
-            Ok(text) => {
-                for letter in text.chars() {
-                    match letter {
-                        '\0'..='\u{1f}' | '\u{7f}' => write_escaped(f, u32::from(letter))?,
-                        _ => f.write_char(letter)?,
-                    }
+        let is_text = std::str::from_utf8(self.0).is_ok();
+        for part in self.0.split_inclusive(|byte| !stands(*byte, is_text)) {
+            match part {
+                [run @ .., last] if !stands(*last, is_text) => {
+                    write_run(f, run)?;
+                    write_escaped(f, *last)?;
                 }
-            }
-            Err(_) => {
-                for byte in self.0 {
-                    match byte {
-                        b' '..=b'~' => f.write_char(char::from(*byte))?,
-                        _ => write_escaped(f, u32::from(*byte))?,
-                    }
-                }
+                run => write_run(f, run)?,
             }
         }
         Ok(())
     }
 }
 
-fn write_escaped<W: fmt::Write>(f: &mut fmt::Formatter<W>, code: u32) -> fmt::Result {
-    write!(f, "\\x{code:02x}")
+// Whether a byte is shown as it is: in what is text all but control characters, in other bytes ASCII's printable ones.
+fn stands(byte: u8, is_text: bool) -> bool {
+    match byte {
+        b' '..=b'~' => true,
+        0x80..=0xFF => is_text,
+        _ => false,
+    }
+}
+
+fn write_run<W: fmt::Write>(f: &mut fmt::Formatter<W>, run: &[u8]) -> fmt::Result {
+    match std::str::from_utf8(run) {
+        Ok(text) => f.write_str(text),
+        Err(_) => Err(fmt::Error),
+    }
+}
+
+fn write_escaped<W: fmt::Write>(f: &mut fmt::Formatter<W>, byte: u8) -> fmt::Result {
+    write!(f, "\\x{byte:02x}")
 }
 
 // How many bytes the first line has, with its byte 10; all of them where none ends it.
