@@ -1,5 +1,5 @@
 // Byte 255 doubled, as Telnet sends it, and made single again.
-ghost use Rattle.std.specs.Prelude.{◌≡◌, ◌+◌, ◌≤◌, ◌++◌, length, Some};
+ghost use Rattle.std.specs.Prelude.{◌≡◌, ◌≤◌, ◌++◌, length, Some};
 ghost use Rattle.std.specs.Iterator.{item_count};
 ghost use Rattle.std.specs.List.{prefix_len};
 ghost use Rattle.text.specs.Area.{filled, Spells};
@@ -23,9 +23,10 @@ fn run_length(line: &[u8]) -> usize
 // is one piece, since to copy a byte by itself costs several times as much.
 #[derive(Clone, Copy)]
 pub(crate) struct Escaped<'a> {
-    // What stands before the first 255. It is found once, and not anew when the pieces are measured and when they are written.
+    // What stands before the line's first 255, until it has come. It is found once, and not anew when the pieces are measured and
+    // when they are written.
     run: &'a [u8],
-    // What follows from that 255 on.
+    // What is left from there on.
     rest: &'a [u8],
 }
 
@@ -33,7 +34,6 @@ impl<'a> Escaped<'a> {
     #[tactic(auto, using(crate::proofs::Runs::run_first))]
     pub(crate) fn of(line: &'a [u8]) -> Escaped<'a>
         ensures doubled { result.run.now ++ escape result.rest.now ≡ escape line.now }
-        ensures within { length result.run.now + length result.rest.now ≡ length line.now }
     {
         let (run, rest) = line.split_at(run_length(line));
         Escaped { run, rest }
@@ -47,20 +47,24 @@ impl<'a> Iterator for Escaped<'a> {
 
     ghost remaining = { item_count (λ s. s.run.now ++ s.rest.now) };
 
+    #[tactic(auto, using(crate::proofs::Runs::run_next))]
     fn next(&mut self) -> Option<&'a [u8]> {
         let run = self.run;
         if !run.is_empty() {
             self.run = &[];
             return Some(run);
         }
-        let [first, behind @ ..] = self.rest else {
-            return None;
-        };
-        *self = Escaped::of(behind);
-        if *first == IAC {
-            Some(&[IAC, IAC])
-        } else {
-            Some(slice::from_ref(first))
+        match self.rest {
+            [] => None,
+            [IAC, behind @ ..] => {
+                self.rest = behind;
+                Some(&[IAC, IAC])
+            }
+            rest => {
+                let (run, behind) = rest.split_at(run_length(rest));
+                self.rest = behind;
+                Some(run)
+            }
         }
     }
 }

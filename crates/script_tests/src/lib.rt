@@ -156,6 +156,9 @@ mod tests {
             ("login \"a\"", 1, Problem::MissingWord),
             ("# one\n\nnoop now", 3, Problem::ExtraWord),
             ("noop with 1 2", 1, Problem::MissingWord),
+            ("mode", 1, Problem::MissingWord),
+            ("peer", 1, Problem::MissingWord),
+            ("host", 1, Problem::MissingWord),
             ("nat on\nnat on", 2, Problem::SaidTwice),
             ("limit +1", 1, Problem::NotANumber),
             (
